@@ -1,0 +1,4 @@
+-- What the contracts of this crate cite.
+pub mod Units
+pub mod Sums
+pub mod Sets
