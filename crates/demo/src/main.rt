@@ -29,7 +29,7 @@ fn run(rt: &LibcRuntime) -> Result<(), AnyError> {
     rt.println(INTRODUCTION)?;
     story::tell(rt, "RAID-5, left-symmetric", Raid5::new(5, 4)?, 2)?;
     story::tell(rt, "Chained declustering", Chain::new(4, 5)?, 3)?;
-    story::tell(rt, "Mirrored pairs", Pair::new(6, 2)?, 1)?;
+    story::tell(rt, "Mirrored pairs", Pair::new(6, 2)?, 2)?;
     println!(rt)?;
     println!(rt, "Every unit of every lost disk came back.")?;
     Ok(())

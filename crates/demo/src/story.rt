@@ -110,8 +110,10 @@ fn rebuild<L: Layout + Copy + Drop>(
     for row in 0..layout.rows() {
         match layout.owner(disk, row) {
             Some(member) => {
-                volume.write(member, volume.sum_of_others(member));
+                let unit = volume.sum_of_others(member);
+                volume.write(member, unit);
                 tell_sum(rt, &layout, row, member)?;
+                tell_text(rt, &layout, member, &unit)?;
             }
             None => println!(rt, "  row {row}: nobody owns this place")?,
         }
@@ -131,15 +133,31 @@ fn tell_sum<L: Layout>(rt: &LibcRuntime, layout: &L, row: usize, lost: Member) -
     for index in 0..width {
         if index != lost.index {
             let sign = if index == first { "" } else { " +" };
-            let label = Label {
-                member: Member {
-                    stripe: lost.stripe,
-                    index,
-                },
-                width,
+            let member = Member {
+                stripe: lost.stripe,
+                index,
             };
+            let label = Label { member, width };
             print!(rt, "{sign} {label}")?;
         }
     }
-    println!(rt)
+    Ok(())
+}
+
+// Ends the line, for a data unit with the first words of its text.
+fn tell_text<L: Layout>(
+    rt: &LibcRuntime,
+    layout: &L,
+    member: Member,
+    unit: &[u8; 512],
+) -> io::Result<()> {
+    if member.index == layout.width().saturating_sub(1) {
+        return println!(rt, ", a check");
+    }
+    print!(rt, ", which reads \"")?;
+    for i in 0..40usize {
+        let letter = char::from(unit[i]);
+        print!(rt, "{letter}")?;
+    }
+    println!(rt, "..\"")
 }

@@ -10,11 +10,10 @@ use Rattle.std.proofs.shelf.Tests.{cases-lt}
 use Rattle.std.specs.Orderings.{Decides}
 use Rattle.units.specs.Sets.{has}
 use Rattle.units.proofs.Counts.{two-out}
-use Rattle.layout.specs.Shape.{Shape, Placing-law, On-disk, data-width, data-units}
+use Rattle.layout.specs.Shape.{Shape, Placing-law, On-disk, Units-are-members, data-width}
 
--- a data unit is a data member of one of the stripes
-pub among : (p : Shape) → Placing-law p → (u : ℕ) → u < data-units p → (u / data-width p < p .stripes) × (u % data-width p < data-width p)
-among p law u h = (div-below u (data-width p) (p .stripes) (omega arith) h, mod-below u (data-width p) (omega arith))
+pub units-are-members : (p : Shape) → Placing-law p → Units-are-members p
+units-are-members p law u h = (div-below u (data-width p) (p .stripes) (omega arith) h, mod-below u (data-width p) (omega arith))
 
 -- a stripe has at most one member on a disk
 pub one-on-disk : (p : Shape) → Placing-law p → (s d set : ℕ) → ((j : ℕ) → Decides (has set j) (On-disk p s j d)) → ones set ≤ 1

@@ -75,6 +75,10 @@ abbrev pub Among : Shape → Option Member → Type 0
 Among p None = Unit {0}
 Among p (Some w) = (w .stripe < p .stripes) × (w .index < data-width p)
 
+-- each data unit is a data member of one of the layout's stripes
+abbrev pub Units-are-members : Shape → Type 0
+Units-are-members p = (u : ℕ) → u < data-units p → (u / data-width p < p .stripes) × (u % data-width p < data-width p)
+
 -- member j of stripe s is one of the layout's, and stands on disk d
 abbrev pub On-disk : Shape → ℕ → ℕ → ℕ → Type 0
 On-disk p s j d = ((s < p .stripes) × (j < p .width)) × (p .place s j .disk ≡ d)

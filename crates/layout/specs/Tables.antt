@@ -8,13 +8,14 @@ use Rattle.layout.specs.declared.Place.{Place}
 use Rattle.layout.specs.declared.Member.{Member}
 use Rattle.layout.specs.Shape.{Shape, place-at, member-at}
 
-abbrev pub between : ℕ → ℕ → ℕ → Bool
-between low high x = leb low x && leb x high
+-- x is from low to high
+abbrev pub in-range : ℕ → ℕ → ℕ → Bool
+in-range low high x = leb low x && leb x high
 
 -- ---- mirrored pairs over n disks and R rows
 
 abbrev pub pair-numbers : ℕ → ℕ → Bool
-pair-numbers n R = between 2 16 n && (eqb (n % 2) 0 && between 1 4096 R)
+pair-numbers n R = in-range 2 16 n && (eqb (n % 2) 0 && in-range 1 4096 R)
 
 -- stripe s lies on pair p = s mod (n/2), in row s div (n/2): member 0 on disk 2p, the check on disk 2p + 1
 abbrev pub pair-place : ℕ → ℕ → ℕ → Place
@@ -29,7 +30,7 @@ pair n R = record { disks = n; rows = R; stripes = (n / 2) * R; width = 2; place
 -- ---- left-symmetric RAID-5 over n disks and R rows
 
 abbrev pub raid5-numbers : ℕ → ℕ → Bool
-raid5-numbers n R = between 3 8 n && between 1 4096 R
+raid5-numbers n R = in-range 3 8 n && in-range 1 4096 R
 
 -- the disk of stripe s's check: the last disk for stripe 0, one disk to the left with each stripe
 abbrev pub check-disk : ℕ → ℕ → ℕ
@@ -55,7 +56,7 @@ raid5 n R = record { disks = n; rows = R; stripes = R; width = n; place = raid5-
 -- ---- chained declustering over n disks and R rows: originals in the first h = R div 2 rows, copies in the next h
 
 abbrev pub chain-numbers : ℕ → ℕ → Bool
-chain-numbers n R = between 2 16 n && between 2 4096 R
+chain-numbers n R = in-range 2 16 n && in-range 2 4096 R
 
 -- member 0 of stripe s on disk s mod n, in row s div n; the check on the next disk, h rows further
 abbrev pub chain-place : ℕ → ℕ → ℕ → ℕ → Place

@@ -4,7 +4,7 @@ ghost use mathlib.Core.Path.{_≡_};
 ghost use lib.Count.{ones};
 ghost use Rattle.std.specs.Orderings.{Decides};
 ghost use Rattle.units.specs.Sets.{has};
-ghost use Rattle.layout.specs.Shape.{Among, On-disk, unit-member};
+ghost use Rattle.layout.specs.Shape.{Among, On-disk, unit-member, Units-are-members};
 use super::Layout;
 use super::Member;
 use units::set::Set;
@@ -17,12 +17,18 @@ pub fn unit_member<L: Layout>(layout: &L, unit: usize) -> Option<Member>
     if unit >= layout.data_units() {
         return None;
     }
+    data_members(layout);
     let data = layout.width() - 1;
     Some(Member {
         stripe: unit / data,
         index: unit % data,
     })
 }
+
+// Each data unit is a data member of one of the stripes, whatever the layout. This function does nothing: it is called for this fact.
+fn data_members<L: Layout>(layout: &L)
+    ensures { λ _. ⌜ Units-are-members (shape (now (layout .entry))) ⌝ }
+{}
 
 // Whether the member is one of the layout's and stands on the disk.
 fn stands_on<L: Layout>(layout: &L, stripe: usize, index: usize, disk: usize) -> bool

@@ -60,10 +60,11 @@ pub impl<L: Layout> fmt::Display for Table<'_, L> as TableDisplay {
             "{disks} disks of {rows} rows, {stripes} stripes of {width} members, {units} data units\n  row"
         )?;
         for disk in 0..disks {
-            write!(f, "  disk {disk:<2}")?;
+            let room = if disk < 10 { 6usize } else { 5 };
+            write!(f, "{:>room$} {disk}", "disk")?;
         }
         for row in 0..rows {
-            write!(f, "\n  {row:>3}")?;
+            write!(f, "\n {row:>4}")?;
             for disk in 0..disks {
                 write_cell(f, self.layout.owner(disk, row), width)?;
             }
@@ -72,16 +73,18 @@ pub impl<L: Layout> fmt::Display for Table<'_, L> as TableDisplay {
     }
 }
 
+// Eight characters, the label at their right end.
 fn write_cell<W: fmt::Write>(
     f: &mut fmt::Formatter<W>,
     owner: Option<Member>,
     width: usize,
 ) -> fmt::Result {
     let Some(member) = owner else {
-        return write!(f, "  -      ");
+        return write!(f, "       -");
     };
     let label = Label { member, width };
     let letter = label.letter();
     let number = label.number();
-    write!(f, "  {letter}{number:<6}")
+    let room = 7usize.saturating_sub(number.checked_ilog10().unwrap_or(0) as usize);
+    write!(f, "{letter:>room$}{number}")
 }

@@ -9,10 +9,10 @@ use borrow.Author.Count.{below-more}
 use lib.ListN.{length, getD, replicate, set}
 use lib.Bits.{bitXor, xor-comm, xor-assoc, xor-self, xor-zero-r}
 use lib.Dec.{eqb, ltb}
-use Rattle.std.proofs.shelf.Tests.{cases-eq, eq-eqb, ne-eqb, cond-true, cond-false, lt-ltb, le-ltb}
+use Rattle.std.proofs.shelf.Tests.{cases-eq, eq-eqb, ne-eqb, cond-true, cond-false, cond-both, ltb-true, lt-ltb, le-ltb}
 use Rattle.std.proofs.shelf.Lists.{ext-getD, getD-set-other, getD-set-same, length-replicate, length-set}
 use Rattle.units.specs.Units.{plus, Is-unit}
-use Rattle.units.specs.Sums.{Sums, units, Sum-laws, sum-below, without, with-check, Rebuilds}
+use Rattle.units.specs.Sums.{Checks, Sums, units, Sum-laws, sum-below, without, with-check, Rebuilds}
 
 -- ---- the sum of units
 
@@ -103,24 +103,25 @@ unit-laws = record {
 -- ---- sums of any values under the laws
 
 module _ {A : Type 0} (o : Sums A) (Fits : A → Type 0) (g : Sum-laws o Fits) where
+  -- the first n values fit
+  abbrev pub Fit-below : (ℕ → A) → ℕ → Type 0
+  Fit-below f n = (i : ℕ) → i < n → Fits (f i)
+
   -- values that are the same below n have the same sum
   pub sum-same : (f h : ℕ → A) (n : ℕ) → ((i : ℕ) → i < n → f i ≡ h i) → sum-below o f n ≡ sum-below o h n
   sum-same f h zero e = refl
   sum-same f h (suc n) e = ap₂ (o .add) (e n (omega arith)) (sum-same f h n (λ i lt. e i (omega arith)))
 
-  pub sum-below-fits : (f : ℕ → A) (n : ℕ) → ((i : ℕ) → Fits (f i)) → Fits (sum-below o f n)
+  pub sum-below-fits : (f : ℕ → A) (n : ℕ) → Fit-below f n → Fits (sum-below o f n)
   sum-below-fits f zero e = g .none-fits
-  sum-below-fits f (suc n) e = g .sum-fits (f n) (sum-below o f n) (e n) (sum-below-fits f n e)
+  sum-below-fits f (suc n) e = g .sum-fits (f n) (sum-below o f n) (e n (omega arith)) (sum-below-fits f n (λ i l. e i (omega arith)))
 
-  cond-fits : (b : Bool) (x y : A) → Fits x → Fits y → Fits (cond b x y)
-  cond-fits true x y a b = a
-  cond-fits false x y a b = b
+  pub with-check-fits : (k : ℕ) (f : ℕ → A) → Fit-below f k → (j : ℕ) → Fits (with-check o k f j)
+  with-check-fits k f e j =
+      cond-both (ltb j k) (f j) (sum-below o f k) Fits (λ t. e j (ltb-true j k t)) (λ _. sum-below-fits f k e)
 
-  pub with-check-fits : (k : ℕ) (f : ℕ → A) → ((i : ℕ) → Fits (f i)) → (j : ℕ) → Fits (with-check o k f j)
-  with-check-fits k f e j = cond-fits (ltb j k) (f j) (sum-below o f k) (e j) (sum-below-fits f k e)
-
-  pub without-fits : (f : ℕ → A) (m : ℕ) → ((i : ℕ) → Fits (f i)) → (i : ℕ) → Fits (without o f m i)
-  without-fits f m e i = cond-fits (eqb i m) (o .none) (f i) (g .none-fits) (e i)
+  pub without-fits : (f : ℕ → A) (m n : ℕ) → Fit-below f n → Fit-below (without o f m) n
+  without-fits f m n e i l = cond-both (eqb i m) (o .none) (f i) Fits (λ _. g .none-fits) (λ _. e i l)
 
   pub without-other : (f : ℕ → A) (m i : ℕ) → (i ≡ m → ⊥) → without o f m i ≡ f i
   without-other f m i n = cond-false (eqb i m) (o .none) (f i) (ne-eqb i m n)
@@ -129,17 +130,20 @@ module _ {A : Type 0} (o : Sums A) (Fits : A → Type 0) (g : Sum-laws o Fits) w
   without-same f m i e = cond-true (eqb i m) (o .none) (f i) (eq-eqb i m e)
 
   -- one value taken out of a sum
-  pub sum-out : (f : ℕ → A) → ((i : ℕ) → Fits (f i)) → (m n : ℕ) → m < n
+  pub sum-out : (f : ℕ → A) (m n : ℕ) → Fit-below f n → m < n
       → sum-below o f n ≡ o .add (f m) (sum-below o (without o f m) n)
-  sum-out f e m zero lt = absurd (omega arith)
-  sum-out f e m (suc n) lt = ⊎-elim last (λ isnt. before isnt (sum-out f e m n (omega arith))) (cases-eq n m)
+  sum-out f m zero e lt = absurd (omega arith)
+  sum-out f m (suc n) e lt = ⊎-elim last (λ isnt. before isnt (sum-out f m n first (omega arith))) (cases-eq n m)
     where
+      first : Fit-below f n
+      first i l = e i (omega arith)
+
       last : n ≡ m → sum-below o f (suc n) ≡ o .add (f m) (sum-below o (without o f m) (suc n))
       last is =
           let rest = sum-below o (without o f m) n in
           let same : sum-below o f n ≡ rest = sum-same f (without o f m) n (λ i l. sym (without-other f m i (λ b. omega arith))) in
           let none-first = g .commutative rest (o .none) ∙ ap (λ (x : A). o .add x rest) (sym (without-same f m n is)) in
-          ap₂ (o .add) (ap f is) (same ∙ sym (g .neutral rest (sum-below-fits (without o f m) n (without-fits f m e))) ∙ none-first)
+          ap₂ (o .add) (ap f is) (same ∙ sym (g .neutral rest (sum-below-fits (without o f m) n (without-fits f m n first))) ∙ none-first)
 
       before : (n ≡ m → ⊥) → sum-below o f n ≡ o .add (f m) (sum-below o (without o f m) n)
           → sum-below o f (suc n) ≡ o .add (f m) (sum-below o (without o f m) (suc n))
@@ -162,14 +166,14 @@ module _ {A : Type 0} (o : Sums A) (Fits : A → Type 0) (g : Sum-laws o Fits) w
       ∙ g .neutral y b
 
   -- a member of a stripe whose members sum to none is the sum of the others
-  pub one-from-others : (v : ℕ) (f : ℕ → A) → ((i : ℕ) → Fits (f i)) → sum-below o f v ≡ o .none
+  pub one-from-others : (v : ℕ) (f : ℕ → A) → Fit-below f v → sum-below o f v ≡ o .none
       → (m : ℕ) → m < v → f m ≡ sum-below o (without o f m) v
   one-from-others v f e sound m lt =
-      cancel (f m) (sum-below o (without o f m) v) (e m) (sum-below-fits (without o f m) v (without-fits f m e))
-      (sym (sum-out f e m v lt) ∙ sound)
+      cancel (f m) (sum-below o (without o f m) v) (e m lt) (sum-below-fits (without o f m) v (without-fits f m v e))
+      (sym (sum-out f m v e lt) ∙ sound)
 
   -- the data with their check sum to none
-  pub with-check-sound : (k : ℕ) (f : ℕ → A) → ((i : ℕ) → Fits (f i)) → sum-below o (with-check o k f) (suc k) ≡ o .none
+  pub with-check-sound : (k : ℕ) (f : ℕ → A) → Fit-below f k → sum-below o (with-check o k f) (suc k) ≡ o .none
   with-check-sound k f e =
       ap₂ (o .add)
       (cond-false (ltb k k) (f k) (sum-below o f k) (le-ltb k k (omega arith)))
@@ -177,12 +181,12 @@ module _ {A : Type 0} (o : Sums A) (Fits : A → Type 0) (g : Sum-laws o Fits) w
       ∙ g .inverse (sum-below o f k) (sum-below-fits f k e)
 
   -- a member of the data with their check is the sum of the others, however member m itself reads
-  pub others-are : (k : ℕ) (f h : ℕ → A) → ((i : ℕ) → Fits (f i)) → (m : ℕ) → m < suc k
+  pub others-are : (k : ℕ) (f h : ℕ → A) → Fit-below f k → (m : ℕ) → m < suc k
       → ((i : ℕ) → i < suc k → (i ≡ m → ⊥) → h i ≡ with-check o k f i)
       → sum-below o (without o h m) (suc k) ≡ with-check o k f m
   others-are k f h e m lt same =
       sum-same (without o h m) (without o (with-check o k f) m) (suc k) each
-      ∙ sym (one-from-others (suc k) (with-check o k f) (with-check-fits k f e) (with-check-sound k f e) m lt)
+      ∙ sym (one-from-others (suc k) (with-check o k f) (λ i _. with-check-fits k f e i) (with-check-sound k f e) m lt)
     where
       each : (i : ℕ) → i < suc k → without o h m i ≡ without o (with-check o k f) m i
       each i l =
@@ -190,6 +194,12 @@ module _ {A : Type 0} (o : Sums A) (Fits : A → Type 0) (g : Sum-laws o Fits) w
           (λ is. without-same h m i is ∙ sym (without-same (with-check o k f) m i is))
           (λ isnt. without-other h m i isnt ∙ same i l isnt ∙ sym (without-other (with-check o k f) m i isnt))
           (cases-eq i m)
+
+pub checks : Checks
+checks k members all =
+    let sum = sum-below units members k in
+    let fits : Is-unit sum = sum-below-fits units Is-unit unit-laws members k (λ i l. all i (omega arith)) in
+    (cancel units Is-unit unit-laws (members k) sum (all k (omega arith)) fits, λ e. ap (λ u. plus u sum) e ∙ plus-self 512 sum fits)
 
 pub rebuilds : Rebuilds
 rebuilds v members all sound = one-from-others units Is-unit unit-laws v members all sound

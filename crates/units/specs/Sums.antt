@@ -41,8 +41,14 @@ module _ {A : Type 0} (o : Sums A) where
 abbrev pub Sound : ℕ → (ℕ → List ℕ) → Type 0
 Sound v members = sum-below units members v ≡ zeros
 
+-- a stripe is sound exactly when its check is the sum of its k data members
+abbrev pub Checks : Type 0
+Checks =
+    (k : ℕ) (members : ℕ → List ℕ) → ((i : ℕ) → i < suc k → Is-unit (members i))
+    → (Sound (suc k) members → members k ≡ sum-below units members k) × (members k ≡ sum-below units members k → Sound (suc k) members)
+
 -- each member of a sound stripe is the sum of the others
 abbrev pub Rebuilds : Type 0
 Rebuilds =
-    (v : ℕ) (members : ℕ → List ℕ) → ((i : ℕ) → Is-unit (members i)) → Sound v members
+    (v : ℕ) (members : ℕ → List ℕ) → ((i : ℕ) → i < v → Is-unit (members i)) → Sound v members
     → (m : ℕ) → m < v → members m ≡ sum-below units (without units members m) v

@@ -3,7 +3,7 @@ ghost use Prim.Native.Nat.{_+_, _%_, _≤_};
 ghost use mathlib.Core.Path.{_≡_};
 ghost use mathlib.Core.Bool.{_&&_};
 ghost use lib.ListN.{length};
-ghost use Rattle.units.specs.Sums.{Rebuilds, Sum-laws, units};
+ghost use Rattle.units.specs.Sums.{Checks, Rebuilds, Sum-laws, units};
 ghost use Rattle.units.specs.Units.{Is-unit, holds-unit, part-at, plus, with-part, with-sum};
 
 pub const UNIT: usize = 512;
@@ -41,8 +41,10 @@ fn add_part(pool: &mut [u8], to: usize, from: usize)
     }
 }
 
-// The laws of the sum of units, and that each member of a sound stripe is the sum of the others.
+// The laws of the sum of units; a stripe is sound exactly when its check is the sum of its data, and then
+// each member is the sum of the others.
 pub fn sum_laws()
     ensures laws { λ _. ⌜ Sum-laws units Is-unit ⌝ }
+    ensures checks { λ _. ⌜ Checks ⌝ }
     ensures rebuilds { λ _. ⌜ Rebuilds ⌝ }
 {}

@@ -1,0 +1,5 @@
+use Rattle.layout.proofs.Lookups.{units-are-members}
+use Rattle.layout.proofs.lookup.data_members.Needs as need
+
+pub returns : need.returns
+returns g c = units-are-members (g .L·Layout .shape (c .args .layout .now)) (g .L·Layout·met .placing (c .args .layout .now))
