@@ -11,6 +11,8 @@ use std::alloc::AllocError;
 use std::alloc::Global;
 use std::error::AnyError;
 use std::io;
+use units::unit::UNIT;
+use units::unit::Unit;
 
 const TEXT: &str =
     "A volume passed its test bench every day while hundreds of its stripes were silently damaged. \
@@ -46,11 +48,11 @@ pub fn tell<L: Layout + Copy + Drop>(
 }
 
 // Byte i of data unit u: the text, over and over.
-fn text_unit(u: usize) -> [u8; 512] {
+fn text_unit(u: usize) -> Unit {
     let text = TEXT.as_bytes();
-    let mut unit = [0; 512];
-    for i in 0..512usize {
-        let at = u.saturating_mul(512).saturating_add(i) % text.len();
+    let mut unit = [0; UNIT];
+    for i in 0..UNIT {
+        let at = u.saturating_mul(UNIT).saturating_add(i) % text.len();
         unit[i] = text[at];
     }
     unit
@@ -149,7 +151,7 @@ fn tell_text<L: Layout>(
     rt: &LibcRuntime,
     layout: &L,
     member: Member,
-    unit: &[u8; 512],
+    unit: &Unit,
 ) -> io::Result<()> {
     if member.index == layout.width().saturating_sub(1) {
         return println!(rt, ", a check");

@@ -65,7 +65,8 @@ impl Denial {
             Denial::AlreadyStarted => "the array was started before",
             Denial::ShelfTooSmall => "the shelf has fewer disks or rows than the layout",
             Denial::ArrayLost => "the array is lost: some stripe has two or more missing members",
-            Denial::BadRange => "the units are none, past the last one or over the end of a stripe",
+            Denial::BadRange =>
+                "the numbers name no units of one stripe, or no request that a plan can be checked for",
             Denial::BadLength => "the bytes are not 512 for each unit",
             Denial::NoSuchDisk => "the array has no such disk",
             Denial::WrongDiskState => "the disk is not in a state for this",

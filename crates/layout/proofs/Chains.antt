@@ -10,7 +10,7 @@ use Rattle.std.specs.declared.option.Option.the-variants.{Some}
 use Rattle.layout.specs.Shape.{Placing-law, Stands, place-at, member-at}
 use Rattle.layout.specs.Tables.{chain, chain-member}
 use Rattle.layout.proofs.Options.{within, tabled}
-use Rattle.layout.proofs.Rings.{Turned, same-disk, same-member, Round, first, second, round}
+use Rattle.layout.proofs.Rings.{Turned, same-disk, same-member, first, second, round}
 
 module _ (n R : ℕ) (some : 2 ≤ n) where
   disk-of : (s : ℕ) → s % n < n

@@ -3,4 +3,4 @@ pub mod Rings
 pub mod Pairs
 pub mod Raid
 pub mod Chains
-pub mod Lookups
+pub mod Placing

@@ -9,7 +9,7 @@ use Rattle.std.specs.declared.option.Option.the-variants.{Some}
 use Rattle.layout.specs.Shape.{Placing-law, Stands, place-at, member-at}
 use Rattle.layout.specs.Tables.{raid5, check-disk, raid5-disk, raid5-member}
 use Rattle.layout.proofs.Options.{within, tabled}
-use Rattle.layout.proofs.Rings.{Turned, same-disk, same-member, Round, first, second, round}
+use Rattle.layout.proofs.Rings.{Turned, same-disk, same-member, first, second, round}
 
 module _ (n : ℕ) (some : 3 ≤ n) (s : ℕ) where
   shift : s % n < n

@@ -1,5 +1,4 @@
 // Layouts: on which disk and in which row each member of each stripe stands.
-ghost use Prim.Native.Nat.{ℕ};
 ghost use mathlib.Core.Path.{_≡_};
 ghost use Rattle.layout.specs.Examples.{Placing-examples};
 ghost use Rattle.layout.specs.Shape.{data-units, found, Placing-law, Shape, Small};

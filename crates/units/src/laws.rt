@@ -11,13 +11,13 @@ ghost use Rattle.std.specs.Orderings.{Decides};
 ghost use Rattle.units.specs.Sets.{elements, has, Lowest, Subset};
 
 // What the bits of one set say of its numbers.
-pub fn of_set(s: u32)
+pub(crate) fn of_set(s: u32)
     ensures counted { λ _. ⌜ ones s ≡ length (elements 32 s) ⌝ }
     ensures low { λ _. ⌜ ((s ≡ 0 → ⊥) → Lowest s (trailingZeros 32 s)) ⌝ }
 {}
 
 // What the bit of one number says.
-pub fn of_number(s: u32, i: usize)
+pub(crate) fn of_number(s: u32, i: usize)
     ensures there { λ _. ⌜ eqb (bitAnd (s / 2 ^ i) 1) 1 ≡ has s i ⌝ }
     ensures high { λ _. ⌜ (32 ≤ i → has s i ≡ false) ⌝ }
     ensures put { λ _. ⌜ (i < 32 → (j : ℕ) → has (bitOr s (1 * 2 ^ i % 2 ^ 32)) j ≡ (has s j || (eqb j i && ltb i 32))) ⌝ }
@@ -26,7 +26,7 @@ pub fn of_number(s: u32, i: usize)
 {}
 
 // What the bits of two sets say of their numbers.
-pub fn of_two(a: u32, b: u32)
+pub(crate) fn of_two(a: u32, b: u32)
     ensures joined { λ _. ⌜ ((j : ℕ) → has (bitOr a b) j ≡ (has a j || has b j)) ⌝ }
     ensures left { λ _. ⌜ ((j : ℕ) → has (bitAnd a (2 ^ 32 - 1 - b)) j ≡ (has a j && not (has b j))) ⌝ }
     ensures within { λ _. ⌜ Decides (eqb (bitAnd a b) a) (Subset a b) ⌝ }

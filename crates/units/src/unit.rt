@@ -6,10 +6,13 @@ ghost use lib.ListN.{length};
 ghost use Rattle.units.specs.Sums.{Checks, Rebuilds, Sum-laws, units};
 ghost use Rattle.units.specs.Units.{Is-unit, holds-unit, part-at, plus, with-part, with-sum};
 
+// How many bytes a unit has.
 pub const UNIT: usize = 512;
 
+pub type Unit = [u8; UNIT];
+
 // Adds `source` to `target`.
-pub fn add(target: &mut [u8; 512], source: &[u8; 512])
+pub fn add(target: &mut Unit, source: &Unit)
     ensures { λ _. ⌜ now (target .exit) ≡ plus (now (target .entry)) (now (source .entry)) ⌝ }
 {
     for i in 0..UNIT {

@@ -1,4 +1,4 @@
-use Rattle.layout.proofs.Lookups.{units-are-members}
+use Rattle.layout.proofs.Placing.{units-are-members}
 use Rattle.layout.proofs.lookup.data_members.Needs as need
 
 pub returns : need.returns

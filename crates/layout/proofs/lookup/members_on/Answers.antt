@@ -1,11 +1,9 @@
 use borrow.Author.Needs.{needs}
-use mathlib.Core.Bool.{true}
-use mathlib.Core.Path.{_≡_}
-use Prim.Native.Nat.{ℕ, _<_}
+use Prim.Native.Nat.{ℕ}
 use Rattle.std.specs.Orderings.{Decides}
 use Rattle.units.specs.Sets.{has}
 use Rattle.layout.specs.Shape.{On-disk}
-use Rattle.layout.proofs.Lookups.{one-on-disk}
+use Rattle.layout.proofs.Placing.{one-on-disk}
 use Rattle.layout.proofs.lookup.members_on.Needs as need
 
 pub returns : need.returns
