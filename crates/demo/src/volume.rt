@@ -63,13 +63,11 @@ impl<L: Layout + Copy + Drop> Volume<L> {
         let mut sum = [0; UNIT];
         for index in 0..self.layout.width() {
             if index != member.index {
-                unit::add(
-                    &mut sum,
-                    &self.read(Member {
-                        stripe: member.stripe,
-                        index,
-                    }),
-                );
+                let other = Member {
+                    stripe: member.stripe,
+                    index,
+                };
+                unit::add(&mut sum, &self.read(other));
             }
         }
         sum
