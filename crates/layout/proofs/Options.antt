@@ -13,7 +13,8 @@ use Rattle.layout.specs.declared.Member.{Member}
 pub within : (d n r m : ℕ) → d < n → r < m → (ltb d n && ltb r m) ≡ true
 within d n r m h k = and-from (ltb d n) (ltb r m) (lt-ltb d n h) (lt-ltb r m k)
 
-chosen : {A : Type 0} (b : Bool) (x w : A) → cond b (Some x) None ≡ Some w → (b ≡ true) × (x ≡ w)
+-- a choice that is some value was made, and is that value
+pub chosen : {A : Type 0} (b : Bool) (x w : A) → cond b (Some x) None ≡ Some w → (b ≡ true) × (x ≡ w)
 chosen true x w e = (cc, cc)
 chosen false x w e = absurd (let z : _≡_ {A = ℕ} 0 1 = cc in omega arith)
 

@@ -70,14 +70,18 @@ data-units p = p .stripes * data-width p
 abbrev pub unit-member : Shape → ℕ → Option Member
 unit-member p u = cond (ltb u (data-units p)) (Some (member-at (u / data-width p) (u % data-width p))) None
 
--- a member that is found is a data member of one of the layout's stripes
-abbrev pub Among : Shape → Option Member → Type 0
-Among p None = Unit {0}
-Among p (Some w) = (w .stripe < p .stripes) × (w .index < data-width p)
+-- member j of stripe s is one of the layout's data members
+abbrev pub Data-member : Shape → ℕ → ℕ → Type 0
+Data-member p s j = (s < p .stripes) × (j < data-width p)
 
--- each data unit is a data member of one of the layout's stripes
+-- a member that is found is a data member
+abbrev pub Found-data : Shape → Option Member → Type 0
+Found-data p None = Unit {0}
+Found-data p (Some w) = Data-member p (w .stripe) (w .index)
+
+-- each data unit is a data member
 abbrev pub Units-are-members : Shape → Type 0
-Units-are-members p = (u : ℕ) → u < data-units p → (u / data-width p < p .stripes) × (u % data-width p < data-width p)
+Units-are-members p = (u : ℕ) → u < data-units p → Data-member p (u / data-width p) (u % data-width p)
 
 -- member j of stripe s is one of the layout's, and stands on disk d
 abbrev pub On-disk : Shape → ℕ → ℕ → ℕ → Type 0

@@ -4,7 +4,7 @@ ghost use mathlib.Core.Path.{_≡_};
 ghost use lib.Count.{ones};
 ghost use Rattle.std.specs.Orderings.{Decides};
 ghost use Rattle.units.specs.Sets.{has};
-ghost use Rattle.layout.specs.Shape.{Among, On-disk, unit-member, Units-are-members};
+ghost use Rattle.layout.specs.Shape.{Found-data, On-disk, unit-member, Units-are-members};
 use super::Layout;
 use super::Member;
 use units::set::Set;
@@ -12,7 +12,7 @@ use units::set::Set;
 // The member that data unit `unit` is, or none past the last unit.
 pub fn unit_member<L: Layout>(layout: &L, unit: usize) -> Option<Member>
     ensures found { λ r. ⌜ r ≡ unit-member (shape (now (layout .entry))) unit ⌝ }
-    ensures among { λ r. ⌜ Among (shape (now (layout .entry))) r ⌝ }
+    ensures data { λ r. ⌜ Found-data (shape (now (layout .entry))) r ⌝ }
 {
     if unit >= layout.data_units() {
         return None;
@@ -25,7 +25,7 @@ pub fn unit_member<L: Layout>(layout: &L, unit: usize) -> Option<Member>
     })
 }
 
-// Each data unit is a data member of one of the stripes, whatever the layout. This function does nothing: it is called for this fact.
+// Each data unit is a data member, whatever the layout. This function does nothing: it is called for this fact.
 fn data_members<L: Layout>(layout: &L)
     ensures { λ _. ⌜ Units-are-members (shape (now (layout .entry))) ⌝ }
 {}
