@@ -1,4 +1,6 @@
 // A shelf that always faults: an example of how a supplier writes a shelf of his own.
+#![tactic(auto)]
+
 ghost use Rattle.std.specs.Prelude.{◌≡◌, ℕ, ◌&&◌, ◌||◌, length, Err, ◌==◌, nat_lt};
 ghost use Rattle.broken_shelf.specs.Broken.{AlwaysFaults, AlwaysFaultsRenewal, broken, fault};
 ghost use Rattle.units.specs.Sets.{has};

@@ -1,4 +1,6 @@
 // Lays a text over the disks of three layouts, loses a disk of each, rebuilds it from the others and compares.
+#![tactic(auto)]
+
 use layout::chain::Chain;
 use layout::pair::Pair;
 use layout::raid5::Raid5;

@@ -1,4 +1,6 @@
 // Denials: what a call answers when it refuses, each with its number.
+#![tactic(auto)]
+
 ghost use Rattle.std.specs.Prelude.{◌≡◌};
 ghost use Rattle.denial.specs.Numbers.{number};
 ghost use Rattle.denial.specs.declared.Denial.TheVariants.{Faulted};

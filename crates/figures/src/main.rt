@@ -1,5 +1,6 @@
 // Figures to read and cases to run: placing tables, every member of large layouts there and back,
 // numbers at the edges of the tables and out of range, and the text of every denial.
+#![tactic(auto)]
 
 mod denials;
 mod placing;

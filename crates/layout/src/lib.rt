@@ -1,4 +1,6 @@
 // Layouts: on which disk and in which row each member of each stripe stands.
+#![tactic(auto)]
+
 ghost use Rattle.std.specs.Prelude.{◌≡◌};
 ghost use Rattle.layout.specs.Examples.{PlacingExamples};
 ghost use Rattle.layout.specs.Shape.{data_units, found, PlacingLaw, Shape, Small};

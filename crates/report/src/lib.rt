@@ -1,4 +1,6 @@
 // A layout as a table of who stands where, for people to read.
+#![tactic(auto)]
+
 use layout::{Layout, Member};
 use std::fmt;
 

@@ -1,4 +1,6 @@
 // Shelves: the way to the disks, whoever supplies them.
+#![tactic(auto)]
+
 ghost use Rattle.std.specs.Prelude.{◌≡◌, ℕ, List};
 ghost use Rattle.shelf.specs.Changes.{ExactChanges};
 ghost use Rattle.shelf.specs.Meaning.{Answer, Lawful, marked, Meaning, Reads, Renews, Writes};

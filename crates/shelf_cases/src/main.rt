@@ -1,5 +1,6 @@
 // What each shelf answers to tables of calls: a memory shelf, scripts of faults, fault shelves one over another, and shelves
 // that always fault.
+#![tactic(auto)]
 
 mod broken;
 mod call;

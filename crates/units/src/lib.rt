@@ -1,4 +1,6 @@
 // Units of 512 bytes with their sum, and sets of small numbers.
+#![tactic(auto)]
+
 mod laws;
 pub mod set;
 pub mod unit;
