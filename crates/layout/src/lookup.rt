@@ -8,8 +8,8 @@ use units::set::Set;
 
 // The member that data unit `unit` is, or none past the last unit.
 pub fn unit_member<L: Layout>(layout: &L, unit: usize) -> Option<Member>
-    ensures found { result ≡ unit_member (shape layout.now) unit }
-    ensures data { FoundData (shape layout.now) result }
+    ensures found { result ≡ unit_member (L.shape layout.now) unit }
+    ensures data { FoundData (L.shape layout.now) result }
 {
     if unit >= layout.data_units() {
         return None;
@@ -24,12 +24,12 @@ pub fn unit_member<L: Layout>(layout: &L, unit: usize) -> Option<Member>
 
 // Each data unit is a data member, whatever the layout. This function does nothing: it is called for this fact.
 fn data_members<L: Layout>(layout: &L)
-    ensures { UnitsAreMembers (shape layout.now) }
+    ensures { UnitsAreMembers (L.shape layout.now) }
 {}
 
 // Whether the member is one of the layout's and stands on the disk.
 fn stands_on<L: Layout>(layout: &L, stripe: usize, index: usize, disk: usize) -> bool
-    ensures { Decides result (OnDisk (shape layout.now) stripe index disk) }
+    ensures { Decides result (OnDisk (L.shape layout.now) stripe index disk) }
 {
     match layout.place(stripe, index) {
         Some(place) => place.disk == disk,
@@ -39,7 +39,7 @@ fn stands_on<L: Layout>(layout: &L, stripe: usize, index: usize, disk: usize) ->
 
 // The members of a stripe that stand on a disk: at most one, whatever the layout.
 pub fn members_on<L: Layout>(layout: &L, stripe: usize, disk: usize) -> Set
-    ensures each { (j : ℕ) → Decides (has result.bits j) (OnDisk (shape layout.now) stripe j disk) }
+    ensures each { (j : ℕ) → Decides (has result.bits j) (OnDisk (L.shape layout.now) stripe j disk) }
     ensures one { count_ones result.bits ≤ 1 }
 {
     let mut members = Set::EMPTY;

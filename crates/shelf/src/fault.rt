@@ -57,8 +57,8 @@ impl<S: Shelf> FaultShelf<S> {
     }
 
     fn extent(&self) -> Extent
-        ensures disks { result.disks ≡ (meaning self.now.below).disks }
-        ensures rows { result.rows ≡ (meaning self.now.below).rows }
+        ensures disks { result.disks ≡ (S.meaning self.now.below).disks }
+        ensures rows { result.rows ≡ (S.meaning self.now.below).rows }
     {
         Extent {
             disks: self.below.disks(),

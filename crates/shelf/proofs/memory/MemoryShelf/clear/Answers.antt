@@ -3,8 +3,8 @@ use lib.ListN.{length-replicate}
 use Rattle.shelf.specs.Places.{disk_fits, held, overwritten, renewed, zeroed}
 use Rattle.shelf.proofs.memory.MemoryShelf.clear.Goals as goal
 
-pub slice-bounds-places-end : goal.slice-bounds-places-end
-slice-bounds-places-end c =
+pub slice_bounds-places-end : goal.slice_bounds-places-end
+slice_bounds-places-end c =
     let s = c.args.self.now in
     omega (arith, disk_fits s.disks s.rows (vec_items s.bytes) c.args.disk (held s.bytes s.whole) c.requires)
 
@@ -18,9 +18,9 @@ returns c =
     omega (arith, disk_fits s.disks s.rows (vec_items s.bytes) c.args.disk whole c.requires) in
     let k : (at + size) - at ≡ size = omega arith in
     let len : length c.fill.new.self ≡ size =
-    c.fill.ensures.len ∙ simp (length-take, length-drop, c.deref-mut.ensures.len) (omega arith) in
+    c.fill.ensures.len ∙ simp (length-take, length-drop, c.deref_mut.ensures.len) (omega arith) in
     let is = overwritten s.bytes _ _ (replicate size 0) at _ size
-    c.deref-mut.ensures.value
+    c.deref_mut.ensures.value
     (c.fill.ensures.after (λ y e. e) ∙ ap (λ n. replicate n 0) (sym c.fill.ensures.len ∙ len))
     (length-replicate size 0) k fits in
     record {

@@ -2,7 +2,7 @@ use Rattle.std.proofs.Common.{vec_items, arith}
 use Rattle.shelf.specs.Places.{held, place_fits}
 use Rattle.shelf.proofs.memory.MemoryShelf.get.Goals as goal
 
-pub slice-bounds-copy-from-slice-end : goal.slice-bounds-copy-from-slice-end
-slice-bounds-copy-from-slice-end c =
+pub slice_bounds-copy_from_slice-end : goal.slice_bounds-copy_from_slice-end
+slice_bounds-copy_from_slice-end c =
     let s = c.args.self.now in
     omega (arith, place_fits s.disks s.rows (vec_items s.bytes) (held s.bytes s.whole) c.args.disk c.args.row c.requires.disk c.requires.row)

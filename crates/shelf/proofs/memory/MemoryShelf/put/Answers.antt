@@ -2,8 +2,8 @@ use Rattle.std.proofs.Common.{◌+◌, ◌*◌, vec_items, arith}
 use Rattle.shelf.specs.Places.{held, overwritten, place_fits, stored}
 use Rattle.shelf.proofs.memory.MemoryShelf.put.Goals as goal
 
-pub slice-bounds-place-end : goal.slice-bounds-place-end
-slice-bounds-place-end c =
+pub slice_bounds-place-end : goal.slice_bounds-place-end
+slice_bounds-place-end c =
     let s = c.args.self.now in
     omega (arith, place_fits s.disks s.rows (vec_items s.bytes) (held s.bytes s.whole) c.args.disk c.args.row c.requires.disk c.requires.row)
 
@@ -13,7 +13,7 @@ returns c =
     let whole = held s.bytes s.whole in
     let fits = place_fits s.disks s.rows (vec_items s.bytes) whole c.args.disk c.args.row c.requires.disk c.requires.row in
     let is = overwritten s.bytes _ _ c.args.unit.now ((c.args.disk * s.rows + c.args.row) * 512) _ 512
-    c.deref-mut.ensures.value c.copy-from-slice.ensures.after c.requires.unit (omega arith) (omega (arith, fits)) in
+    c.deref_mut.ensures.value c.copy_from_slice.ensures.after c.requires.unit (omega arith) (omega (arith, fits)) in
     record {
       stored = stored s.disks s.rows (vec_items s.bytes) c.args.unit.now _ c.args.disk c.args.row whole c.requires is;
       bytes = is;
