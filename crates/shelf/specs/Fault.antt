@@ -1,5 +1,5 @@
 -- The fault shelf: a shelf over another, whose accesses fault by a script. Assumes nothing.
-use Rattle.std.specs.Prelude.{◌≡◌, ℕ, true, false, ◌||◌, List, length, Err, Option, slice_index_or, slice_set}
+use Rattle.std.specs.Prelude.{◌≡◌, ℕ, true, false, ◌||◌, List, length, Err, slice_index_or, slice_set}
 use Rattle.std.specs.Option as options
 use Rattle.std.specs.Result as results
 use Rattle.shelf.specs.declared.fault.FaultShelf.{FaultShelf}
