@@ -1,10 +1,11 @@
 #!/usr/bin/env python3
 """Spells the repository's own definitions and lemmas as today's Rattle does: facts in camel case, all else in snake case.
 
-usage: python3 tools/respell.py [FOLDER]     after /opt/rattle/port/port.py, once; a second run changes nothing
+usage: python3 tools/respell.py [FOLDER]     after the kit's port.py, once; a second run changes nothing
 
 A dash stays where it joins two names in a lemma (`length-plus`, `has-elements`). Names of the library and those that
-Rattle makes are left alone. It goes over the crates and, between backticks, over README.md and docs/.
+Rattle makes are left alone. It goes over the crates and, between backticks, over README.md and docs/ (but for the page that tells
+of both spellings, docs/PORT.md).
 """
 
 import glob
@@ -92,7 +93,7 @@ def main(top):
     changed = 0
     for path in sorted(glob.glob(os.path.join(top, "**", "*"), recursive=True)):
         here = os.path.relpath(path, top)
-        page = here == "README.md" or re.fullmatch(r"docs/[\w.-]+\.md", here)
+        page = here == "README.md" or re.fullmatch(r"docs/(?!PORT)[\w.-]+\.md", here)
         code = re.fullmatch(r"crates/\w+/(src|specs|proofs)/.*\.(rt|antt)", here)
         if not (page or code):
             continue
