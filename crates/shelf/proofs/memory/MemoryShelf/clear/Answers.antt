@@ -1,6 +1,6 @@
 use Rattle.std.proofs.Common.{◌≡◌, ◌+◌, ◌-◌, ◌*◌, ◌≤◌, length, replicate, vec_items, vec_len, sym, ap, ◌∙◌, arith, length-drop, length-take}
 use lib.ListN.{length-replicate}
-use Rattle.shelf.specs.Places.{disk_fits, held, overwritten, renewed, zeroed}
+use Rattle.shelf.proofs.Places.{disk_fits, held, overwritten, renewed, zeroed}
 use Rattle.shelf.proofs.memory.MemoryShelf.clear.Goals as goal
 
 pub slice_bounds-places-end : goal.slice_bounds-places-end

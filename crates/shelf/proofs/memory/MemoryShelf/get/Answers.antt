@@ -1,5 +1,6 @@
 use Rattle.std.proofs.Common.{vec_items, arith}
-use Rattle.shelf.specs.Places.{held, place_fits}
+use Rattle.shelf.specs.Places.{place_fits}
+use Rattle.shelf.proofs.Places.{held}
 use Rattle.shelf.proofs.memory.MemoryShelf.get.Goals as goal
 
 pub slice_bounds-copy_from_slice-end : goal.slice_bounds-copy_from_slice-end

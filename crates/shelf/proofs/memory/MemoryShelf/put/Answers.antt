@@ -1,5 +1,6 @@
 use Rattle.std.proofs.Common.{◌+◌, ◌*◌, vec_items, arith}
-use Rattle.shelf.specs.Places.{held, overwritten, place_fits, stored}
+use Rattle.shelf.specs.Places.{place_fits}
+use Rattle.shelf.proofs.Places.{held, overwritten, stored}
 use Rattle.shelf.proofs.memory.MemoryShelf.put.Goals as goal
 
 pub slice_bounds-place-end : goal.slice_bounds-place-end

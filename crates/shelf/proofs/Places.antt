@@ -1,0 +1,125 @@
+-- What a change of a memory shelf's bytes leaves at each place.
+use Rattle.std.specs.Prelude.{◌≡◌, ℕ, ◌+◌, ◌-◌, ◌*◌, ◌<◌, ◌≤◌, ◌&&◌, ◌⊎◌, List, ◌++◌, length, take, drop, replicate, vec_items, vec_len, Vec, ◌≢◌, nat_lt, refl}
+use Rattle.std.proofs.Common.{sym, ap, ap₂, ◌∙◌, inl, inr, arith, length-append, length-drop, rules}
+use borrow.Rule.Slice.PartMut.{put_mid}
+use Rattle.std.proofs.lemmas.List.{append_assoc, drop-append-le, drop_at, drop-drop, drop-replicate, drop-take, length-take-le, places, with_items_is, take-append-le, take-replicate, take-take, length-replicate}
+use Rattle.std.proofs.lemmas.Bool.{ltb-true, cases_order, cases_Bool, and_parts, cond-true, cond-false}
+use Rattle.std.specs.Vec.{with_items}
+use Rattle.std.specs.declared.alloc.Global.{Global}
+use Rattle.units.specs.Units.{unit_at, with_unit, zeros}
+use Rattle.units.proofs.Pools.{unit_at_other, unit_at_same}
+use Rattle.shelf.specs.Meaning.{Renewed, Stored, Within}
+use Rattle.shelf.specs.Memory.{bytes_at, memory, with_zeros, Zeroed}
+use Rattle.shelf.specs.Places.{in_range, next, place_fits}
+
+-- what fits the length of a Vec fits the list that it holds
+pub held : (v : Vec ℕ Global) {n : ℕ} → n ≤ vec_len v → n ≤ length (vec_items v)
+held v h = let e = v.ok.0 in omega arith
+
+-- what a Vec holds whose n bytes from a on were written over
+pub overwritten : (v : Vec ℕ Global) (xs ys zs : List ℕ) (a k n : ℕ) → xs ≡ vec_items v → ys ≡ zs → length zs ≡ n → k ≡ n → a + n ≤ vec_len v
+    → vec_items (with_items v (put_mid a k xs ys)) ≡ take a (vec_items v) ++ (zs ++ drop (a + n) (vec_items v))
+overwritten v xs ys zs a k n held is l eq fits =
+    let len : length ys ≡ k = ap length is ∙ l ∙ sym eq in
+    let all : length xs ≡ vec_len v = ap length held ∙ sym v.ok.0 in
+    let room : a + k ≤ length xs = omega arith in
+    let whole : length (put_mid a k xs ys) ≡ length xs = search (rules, places) in
+    with_items_is v (put_mid a k xs ys) (whole ∙ all)
+    ∙ ap₂ (λ ws us. take a ws ++ (us ++ drop k (drop a ws))) held is
+    ∙ ap (λ ws. take a (vec_items v) ++ (zs ++ ws)) (drop-drop k a (vec_items v) ∙ ap (λ m. drop (a + m) (vec_items v)) eq)
+
+-- places have different numbers
+pub places_apart : (R d r e q : ℕ) → r < R → q < R → (e ≡ d → q ≢ r) → e * R + q ≢ d * R + r
+places_apart R d r e q h k ne same = elim (cases_order e d) [
+  | inl eq ↦ let s : e * R ≡ d * R = ap (λ x. x * R) eq in ne eq (omega arith)
+  | inr o ↦ elim o [ inl l ↦ omega (arith, next R e d l) | inr l ↦ omega (arith, next R d e l) ]
+]
+
+-- two lists of bytes that agree on a place's unit hold the same there
+pub same_place : (n R : ℕ) (bs cs : List ℕ) (d r : ℕ)
+    → (d < n → r < R → unit_at cs (d * R + r) ≡ unit_at bs (d * R + r)) → bytes_at n R cs d r ≡ bytes_at n R bs d r
+same_place n R bs cs d r h = elim (cases_Bool (nat_lt d n && nat_lt r R)) [
+  | inl t ↦ let p = and_parts (nat_lt d n) (nat_lt r R) t in
+      cond-true _ _ _ t ∙ h (ltb-true d n p.0) (ltb-true r R p.1) ∙ sym (cond-true _ _ _ t)
+  | inr f ↦ cond-false _ _ _ f ∙ sym (cond-false _ _ _ f)
+]
+
+-- another unit at a place's number is other bytes at that place, and the same everywhere else
+pub stored : (n R : ℕ) (bs us cs : List ℕ) (d r : ℕ) → n * R * 512 ≤ length bs → Within n R d r (length us)
+    → cs ≡ with_unit bs (d * R + r) us → Stored (memory n R bs) d r us (memory n R cs)
+stored n R bs us cs d r whole w is =
+    let i = d * R + r in
+    let fits = place_fits n R bs whole d r w.disk w.row in
+    let unit : (j : ℕ) → unit_at cs j ≡ unit_at (with_unit bs i us) j = λ j. ap (λ zs. unit_at zs j) is in
+    record {
+      disks = refl;
+      rows = refl;
+      there = in_range n R cs d r w.disk w.row ∙ unit i ∙ unit_at_same bs us i fits w.unit;
+      elsewhere = λ e q ne. same_place n R bs cs e q (λ h k.
+          unit (e * R + q)
+          ∙ unit_at_other bs us i fits w.unit (e * R + q) (place_fits n R bs whole e q h k) (places_apart R d r e q w.row k ne));
+      marks = λ _. refl;
+    }
+
+module _ (bs : List ℕ) (i n : ℕ) (fits : i * 512 + n * 512 ≤ length bs) where
+  front : length (take (i * 512) bs) ≡ i * 512
+  front = length-take-le (i * 512) bs (omega arith)
+
+  -- a unit of the zeros
+  pub unit_of_zeros : (j : ℕ) → j < n → unit_at (with_zeros bs i n) (i + j) ≡ zeros
+  unit_of_zeros j h =
+      let at : (i + j) * 512 ≡ i * 512 + j * 512 = omega arith in
+      let m : 512 ≤ length (drop (j * 512) (replicate {A = ℕ} (n * 512) 0)) = simp (length-drop, length-replicate) (omega arith) in
+      let o : j * 512 ≤ length (replicate {A = ℕ} (n * 512) 0) = simp length-replicate (omega arith) in
+      ap (λ a. take 512 (drop a (with_zeros bs i n))) at
+      ∙ ap (take 512) (sym (drop-drop (j * 512) (i * 512) (with_zeros bs i n))
+      ∙ ap (drop (j * 512)) (drop_at (take (i * 512) bs) _ (i * 512) front)
+      ∙ drop-append-le (j * 512) (replicate (n * 512) 0) (drop (i * 512 + n * 512) bs) o)
+      ∙ take-append-le 512 (drop (j * 512) (replicate (n * 512) 0)) _ m
+      ∙ ap (take 512) (drop-replicate (j * 512) (n * 512) 0)
+      ∙ take-replicate 512 (n * 512 - j * 512) 0 (omega arith)
+
+  -- a unit beside the zeros
+  pub unit_beside_zeros : (j : ℕ) → (j < i) ⊎ (i + n ≤ j) → unit_at (with_zeros bs i n) j ≡ unit_at bs j
+  unit_beside_zeros j (inl below) =
+      sym (drop-take (j * 512) 512 (with_zeros bs i n))
+      ∙ ap (drop (j * 512)) (take-append-le (j * 512 + 512) (take (i * 512) bs) _ (omega (arith, front)) ∙ take-take (j * 512 + 512) (i * 512) bs (omega arith))
+      ∙ drop-take (j * 512) 512 bs
+  unit_beside_zeros j (inr above) =
+      let e : j * 512 ≡ (i * 512 + n * 512) + (j * 512 - (i * 512 + n * 512)) = omega arith in
+      let whole : length (take (i * 512) bs ++ replicate (n * 512) 0) ≡ i * 512 + n * 512 = simp (length-append, length-replicate) (omega (arith, front)) in
+      ap (take 512)
+      (ap (λ a. drop a (with_zeros bs i n)) e
+      ∙ sym (drop-drop (j * 512 - (i * 512 + n * 512)) (i * 512 + n * 512) (with_zeros bs i n))
+      ∙ ap (drop (j * 512 - (i * 512 + n * 512))) (ap (drop (i * 512 + n * 512)) (sym (append_assoc (take (i * 512) bs) (replicate (n * 512) 0) _)) ∙ drop_at (take (i * 512) bs ++ replicate (n * 512) 0) _ (i * 512 + n * 512) whole)
+      ∙ drop-drop (j * 512 - (i * 512 + n * 512)) (i * 512 + n * 512) bs
+      ∙ ap (λ a. drop a bs) (sym e))
+
+-- the bytes of a disk lie within the shelf's
+pub disk_fits : (n R : ℕ) (bs : List ℕ) (d : ℕ) → n * R * 512 ≤ length bs → d < n → d * R * 512 + R * 512 ≤ length bs
+disk_fits n R bs d whole h = omega (arith, next R d n h)
+
+module _ (n R : ℕ) (bs cs : List ℕ) (d : ℕ) (whole : n * R * 512 ≤ length bs) (h : d < n) (is : cs ≡ with_zeros bs (d * R) R) where
+  fits : d * R * 512 + R * 512 ≤ length bs
+  fits = disk_fits n R bs d whole h
+
+  pub zeroed : Zeroed (memory n R cs) d
+  zeroed r k = in_range n R cs d r h k ∙ ap (λ zs. unit_at zs (d * R + r)) is ∙ unit_of_zeros bs (d * R) R fits r k
+
+  -- a place lies beside another disk
+  beside : (e q : ℕ) → q < R → (e ≢ d) → (e * R + q < d * R) ⊎ (d * R + R ≤ e * R + q)
+  beside e q k ne = elim (cases_order e d) [
+    | inl same ↦ absurd (ne same)
+    | inr o ↦ elim o [ inl l ↦ inl (omega (arith, next R e d l)) | inr l ↦ inr (omega (arith, next R d e l)) ]
+  ]
+
+  -- zeros all over a disk renew it
+  pub renewed : Renewed (memory n R bs) d (memory n R cs)
+  renewed = record {
+    disks = refl;
+    rows = refl;
+    elsewhere = λ e q ne. same_place n R bs cs e q (λ _ k.
+        ap (λ zs. unit_at zs (e * R + q)) is ∙ unit_beside_zeros bs (d * R) R fits (e * R + q) (beside e q k ne));
+    there = refl;
+    others = λ _ _. refl;
+  }
