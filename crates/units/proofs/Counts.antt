@@ -179,3 +179,11 @@ lowest_trailing (suc k) s pos h =
     digit (suc d) e half =
         let odd : s % 2 ≡ 1 = omega arith in
         record { there = has_zero s ∙ ap (λ n. eqb n 1) odd; none_below = λ j l. absurd (omega arith) }
+
+-- the same, as `Set::lowest` writes it
+pub lowest_there : (s : ℕ) → 0 < s → s < 2 ^ 32 → has s (count_trailing_zeros 32 s) ≡ true
+lowest_there s pos h = (lowest_trailing 32 s pos h).there
+
+pub none_below_lowest : (s j : ℕ) → s < 2 ^ 32 → j < count_trailing_zeros 32 s → has s j ≡ false
+none_below_lowest zero j h l = has_none j
+none_below_lowest (suc s) j h l = (lowest_trailing 32 (suc s) (omega arith) h).none_below j l

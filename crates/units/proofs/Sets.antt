@@ -1,7 +1,7 @@
 -- What is in a set that is held in one number, by `has`: in the parts, joins and complements of sets.
 use Rattle.std.proofs.Common.{◌≡◌, ℕ, zero, suc, ◌+◌, ◌-◌, ◌*◌, ◌/◌, ◌%◌, ◌^◌, ◌<◌, ◌≤◌, Bool, true, false, not, ◌&&◌, ◌||◌, eqb, ltb, Decides, sym, refl, ap, ◌∙◌, inl, inr, pow-suc, div-one, one-add, arith, pow_mono, shr-shr}
 use native.Mathlib.Nat.{zero-div}
-use lib.Bits.{bit_and, bit_or, and_mod, and_shr, or_mod, or_shr}
+use lib.Bits.{bit_and, bit_or, and_mask, and_mod, and_shr, or_mod, or_shr}
 use lib.Dec.{eqb-suc-suc, eqb-suc-zero, eqb-zero-suc}
 use Rattle.std.proofs.lemmas.Nat.{one_shl, pow_below}
 use Rattle.std.proofs.lemmas.Bool.{and_parts, cases_lt, eq-eqb, eqb-true, lt-ltb, ne_eqb}
@@ -169,3 +169,20 @@ and_from_subset a b sub = has_ext (bit_and a b) a (λ i. has_and a b i ∙ each 
 pub decides_subset : (a b : ℕ) → Decides (eqb (bit_and a b) a) (Subset a b)
 decides_subset a b =
     (λ t. subset_from_and a b (eqb-true (bit_and a b) a t), λ sub. eq-eqb (bit_and a b) a (and_from_subset a b sub))
+
+-- ---- at the width of a `Set`, as its methods write these
+
+pub has_over : (s i : ℕ) → s < 2 ^ 32 → 32 ≤ i → has s i ≡ false
+has_over = has_high 32
+
+pub has_shifted : (s i : ℕ) → eqb (bit_and (s / 2 ^ i) 1) 1 ≡ has s i
+has_shifted s i = ap (λ n. eqb n 1) (and_mask (s / 2 ^ i) 1)
+
+pub has_inserted : (s j i : ℕ) → j < 32 → has (bit_or s (1 * 2 ^ j % 4294967296)) i ≡ (has s i || (eqb i j && ltb j 32))
+has_inserted s j i l = has_insert_within 32 s j l i
+
+pub has_removed : (s j i : ℕ) → s < 4294967296 → j < 32 → has (bit_and s (4294967295 - 1 * 2 ^ j % 4294967296)) i ≡ (has s i && not (eqb i j))
+has_removed s j i h l = has_remove_within 32 s j h l i
+
+pub has_left : (a b i : ℕ) → a < 4294967296 → b < 4294967296 → has (bit_and a (4294967295 - b)) i ≡ (has a i && not (has b i))
+has_left = has_difference 32

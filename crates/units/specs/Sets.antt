@@ -1,5 +1,5 @@
 -- Sets of small numbers (members, disks, buffers, nodes), each held in one number. Assumes nothing.
-use Rattle.std.specs.Prelude.{◌≡◌, ℕ, zero, suc, ◌/◌, ◌%◌, ◌^◌, ◌<◌, Bool, true, false, cond, List, [], ◌∷◌, ◌==◌}
+use Rattle.std.specs.Prelude.{◌≡◌, ℕ, zero, suc, ◌/◌, ◌%◌, ◌^◌, ◌<◌, Bool, true, false, if◌then◌else◌, List, [], ◌∷◌, ◌==◌}
 
 -- i is in the set s: bit i of s is set
 abbrev pub has : ℕ → ℕ → Bool
@@ -8,7 +8,7 @@ has s i = s / 2 ^ i % 2 == 1
 -- the n numbers from i on that are in the set, rising
 abbrev pub elements_from : ℕ → ℕ → ℕ → List ℕ
 elements_from s i zero = []
-elements_from s i (suc n) = cond (has s i) (i ∷ elements_from s (suc i) n) (elements_from s (suc i) n)
+elements_from s i (suc n) = if has s i then i ∷ elements_from s (suc i) n else elements_from s (suc i) n
 
 -- the numbers below n that are in the set, rising; shut, since at a numeral n it would unfold into n tests
 unfoldable pub elements : ℕ → ℕ → List ℕ
