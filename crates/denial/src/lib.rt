@@ -90,9 +90,7 @@ impl From<RequestFault> for Denial {
 
 impl fmt::Display for Denial {
     fn fmt<W: fmt::Write>(&self, f: &mut fmt::Formatter<W>) -> fmt::Result {
-        let number = self.number();
-        let meaning = self.meaning();
-        write!(f, "denial {number}: {meaning}")?;
+        write!(f, "denial {}: {}", self.number(), self.meaning())?;
         match self {
             Denial::PlanRefused { rule } => write!(f, " {rule}"),
             Denial::Faulted(fault) => write!(f, " {fault}"),
