@@ -1,9 +1,10 @@
 -- Sets of small numbers (members, disks, buffers, nodes), each held in one number. Assumes nothing.
-use Rattle.std.specs.Prelude.{◌≡◌, ℕ, zero, suc, ◌/◌, ◌%◌, ◌^◌, ◌<◌, Bool, true, false, if◌then◌else◌, List, [], ◌∷◌, ◌==◌}
+use Rattle.std.specs.Prelude.{◌≡◌, ℕ, zero, suc, ◌<◌, Bool, true, false, if◌then◌else◌, List, [], ◌∷◌, ◌==◌}
+use Rattle.std.specs.Int.{bit_at}
 
 -- i is in the set s: bit i of s is set
 abbrev pub has : ℕ → ℕ → Bool
-has s i = s / 2 ^ i % 2 == 1
+has s i = bit_at s i == 1
 
 -- the n numbers from i on that are in the set, rising
 abbrev pub elements_from : ℕ → ℕ → ℕ → List ℕ

@@ -24,7 +24,7 @@ impl Model for Set {
 impl Set {
     pub const EMPTY: Set = Set { bits: 0 };
 
-    #[tactic(auto, using(crate::proofs::Sets::has_shifted, crate::proofs::Sets::has_over))]
+    #[tactic(auto, using(crate::proofs::Sets::contained, crate::proofs::Sets::none_over))]
     pub fn contains(self, i: usize) -> bool
         ensures { result ≡ has self i }
     {
@@ -32,7 +32,7 @@ impl Set {
     }
 
     // Puts `i` in; a number over 31 is left out.
-    #[tactic(auto, using(crate::proofs::Sets::has_inserted))]
+    #[tactic(auto, using(crate::proofs::Sets::inserted))]
     pub fn insert(&mut self, i: usize)
         ensures { (j : ℕ) → has self.new j ≡ (has self.old j || (j == i && nat_lt i 32)) }
     {
@@ -41,7 +41,7 @@ impl Set {
         }
     }
 
-    #[tactic(auto, using(crate::proofs::Sets::has_removed, crate::proofs::Sets::has_over))]
+    #[tactic(auto, using(crate::proofs::Sets::removed, crate::proofs::Sets::none_over))]
     pub fn remove(&mut self, i: usize)
         ensures { (j : ℕ) → has self.new j ≡ (has self.old j && not (j == i)) }
     {
@@ -60,7 +60,7 @@ impl Set {
         }
     }
 
-    #[tactic(auto, using(crate::proofs::Sets::has_left))]
+    #[tactic(auto, using(crate::proofs::Sets::left))]
     pub fn difference(self, other: Set) -> Set
         ensures { (j : ℕ) → has result j ≡ (has self j && not (has other j)) }
     {
@@ -69,7 +69,7 @@ impl Set {
         }
     }
 
-    #[tactic(auto, using(crate::proofs::Sets::decides_subset))]
+    #[tactic(auto, using(crate::proofs::Sets::within))]
     pub fn is_subset(self, other: Set) -> bool
         ensures { IsTrue result ↔ Subset self other }
     {
