@@ -8,6 +8,7 @@ use std::fmt;
 
 // What a shelf answers in place of an access: 1 for a wrong place or length, 2 to 8 for a disk that failed it.
 // Code 9 is the array's own: a disk that was found marked at start.
+// The code stays a number by a rule of the project: suppliers choose among 2 to 8, and hosts read it.
 #[derive(Clone, Copy, PartialEq, Eq, Debug)]
 pub struct ShelfFault {
     pub code: u8,
@@ -16,6 +17,7 @@ pub struct ShelfFault {
 }
 
 // What the array was doing: running the plan up to its commit (also for a read), its writes, a renewal, or the start.
+// `Unset` is no `None`, by a rule of the project: a disk's record may be all zeros, and 0 is a phase that hosts read.
 #[derive(Clone, Copy, PartialEq, Eq, Debug)]
 pub enum Phase {
     Unset = 0,

@@ -25,6 +25,7 @@ pub enum Denial {
     StripeLocked,
     NoFreeSlot,
     WrongRequestState,
+    // The rule stays a number by a rule of the project: hosts read which of the nine was broken first.
     PlanRefused { rule: u8 },
     Faulted(RequestFault),
     BadLayout,
@@ -33,6 +34,7 @@ pub enum Denial {
 }
 
 impl Denial {
+    // A match, since a variant that carries something takes no number of its own.
     pub fn number(&self) -> u8
         ensures { result ≡ number self.now }
     {
