@@ -7,7 +7,7 @@ use Rattle.units.specs.Units.{zeros}
 
 -- 32 disks of zeros; those are marked that were asked for anything
 abbrev pub broken : BrokenShelf → Meaning
-broken s = record { disks = 32; rows = s.rows; bytes = λ _ _. zeros; mark = has s.marks.bits }
+broken s = record { disks = 32; rows = s.rows; bytes = λ _ _. zeros; mark = has s.marks }
 
 -- the answer in range: a fault with the shelf's code, taken as 2 or 8 where it is less or more
 abbrev pub fault : BrokenShelf → ℕ → ℕ → Answer

@@ -24,7 +24,7 @@ impl BrokenShelf {
     pub fn new(rows: usize, code: u8) -> BrokenShelf
         ensures rows { result.rows ≡ rows }
         ensures code { result.code ≡ code }
-        ensures marks { result.marks.bits ≡ 0 }
+        ensures marks { result.marks ≡ 0 }
     {
         BrokenShelf {
             rows,
@@ -46,7 +46,7 @@ impl BrokenShelf {
     // Marks the disk, and gives its fault.
     fn fail(&mut self, disk: usize, row: usize) -> ShelfFault
         ensures answer { Err result ≡ fault self.old disk row }
-        ensures marks { (d : ℕ) → has self.new.marks.bits d ≡ (has self.old.marks.bits d || (d == disk && nat_lt disk 32)) }
+        ensures marks { (d : ℕ) → has self.new.marks d ≡ (has self.old.marks d || (d == disk && nat_lt disk 32)) }
         ensures rows { self.new.rows ≡ self.old.rows }
         ensures code { self.new.code ≡ self.old.code }
     {

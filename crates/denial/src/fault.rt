@@ -8,6 +8,7 @@ use std::fmt;
 
 // What a shelf answers in place of an access: 1 for a wrong place or length, 2 to 8 for a disk that failed it.
 // Code 9 is the array's own: a disk that was found marked at start.
+// The code stays a number by a rule of the project: suppliers choose among 2 to 8, and hosts read it.
 #[derive(Clone, Copy, PartialEq, Eq, Debug)]
 pub struct ShelfFault {
     pub code: u8,
@@ -16,26 +17,21 @@ pub struct ShelfFault {
 }
 
 // What the array was doing: running the plan up to its commit (also for a read), its writes, a renewal, or the start.
+// `Unset` is no `None`, by a rule of the project: a disk's record may be all zeros, and 0 is a phase that hosts read.
 #[derive(Clone, Copy, PartialEq, Eq, Debug)]
 pub enum Phase {
-    Unset,
-    Prepare,
-    Settle,
-    Renewal,
-    Start,
+    Unset = 0,
+    Prepare = 1,
+    Settle = 2,
+    Renewal = 3,
+    Start = 4,
 }
 
 impl Phase {
     pub fn number(self) -> u8
         ensures { result ≡ phase_number self }
     {
-        match self {
-            Phase::Unset => 0,
-            Phase::Prepare => 1,
-            Phase::Settle => 2,
-            Phase::Renewal => 3,
-            Phase::Start => 4,
-        }
+        self as u8
     }
 }
 
@@ -101,10 +97,11 @@ impl From<NodeFault> for RequestFault {
 
 impl fmt::Display for ShelfFault {
     fn fmt<W: fmt::Write>(&self, f: &mut fmt::Formatter<W>) -> fmt::Result {
-        let code = self.code;
-        let disk = self.disk;
-        let row = self.row;
-        write!(f, "fault {code} at disk {disk}, row {row}")
+        write!(
+            f,
+            "fault {} at disk {}, row {}",
+            self.code, self.disk, self.row
+        )
     }
 }
 
@@ -112,30 +109,28 @@ impl Error for ShelfFault {}
 
 impl fmt::Display for Phase {
     fn fmt<W: fmt::Write>(&self, f: &mut fmt::Formatter<W>) -> fmt::Result {
-        let name = match self {
+        f.write_str(match self {
             Phase::Unset => "no phase",
             Phase::Prepare => "prepare",
             Phase::Settle => "settle",
             Phase::Renewal => "renewal",
             Phase::Start => "start",
-        };
-        write!(f, "{name}")
+        })
     }
 }
 
 impl fmt::Display for NodeFault {
     fn fmt<W: fmt::Write>(&self, f: &mut fmt::Formatter<W>) -> fmt::Result {
-        let node = self.node;
-        let phase = self.phase;
-        let fault = self.fault;
-        write!(f, "{fault}, met by node {node} in {phase}")
+        write!(
+            f,
+            "{}, met by node {} in {}",
+            self.fault, self.node, self.phase
+        )
     }
 }
 
 impl fmt::Display for RequestFault {
     fn fmt<W: fmt::Write>(&self, f: &mut fmt::Formatter<W>) -> fmt::Result {
-        let stripe = self.stripe;
-        let fault = self.fault;
-        write!(f, "{fault} on stripe {stripe}")
+        write!(f, "{} on stripe {}", self.fault, self.stripe)
     }
 }

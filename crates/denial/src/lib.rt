@@ -25,6 +25,7 @@ pub enum Denial {
     StripeLocked,
     NoFreeSlot,
     WrongRequestState,
+    // The rule stays a number by a rule of the project: hosts read which of the nine was broken first.
     PlanRefused { rule: u8 },
     Faulted(RequestFault),
     BadLayout,
@@ -33,6 +34,7 @@ pub enum Denial {
 }
 
 impl Denial {
+    // A match, since a variant that carries something takes no number of its own.
     pub fn number(&self) -> u8
         ensures { result ≡ number self.now }
     {
@@ -90,9 +92,7 @@ impl From<RequestFault> for Denial {
 
 impl fmt::Display for Denial {
     fn fmt<W: fmt::Write>(&self, f: &mut fmt::Formatter<W>) -> fmt::Result {
-        let number = self.number();
-        let meaning = self.meaning();
-        write!(f, "denial {number}: {meaning}")?;
+        write!(f, "denial {}: {}", self.number(), self.meaning())?;
         match self {
             Denial::PlanRefused { rule } => write!(f, " {rule}"),
             Denial::Faulted(fault) => write!(f, " {fault}"),

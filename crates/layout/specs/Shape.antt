@@ -2,7 +2,7 @@
 use Rattle.std.specs.Prelude.{◌≡◌, ℕ, ◌-◌, ◌*◌, ◌/◌, ◌%◌, ◌<◌, ◌≤◌, Bool, true, false, cond, ◌&&◌, Some, None, Ok, Err, Option, Result, nat_lt}
 use Rattle.denial.specs.declared.Denial.{Denial}
 use Rattle.denial.specs.declared.Denial.TheVariants.{BadLayout}
-use Rattle.layout.specs.declared.Place.{Place}
+use Rattle.units.specs.declared.place.Place.{Place}
 use Rattle.layout.specs.declared.Member.{Member}
 
 -- sizes; the place of a stripe's member; the owner of a disk's row, if it has one

@@ -1,6 +1,6 @@
 -- The three layouts: which numbers each takes, and where it puts the members of stripe s. Assumes nothing.
 use Rattle.std.specs.Prelude.{ℕ, ◌+◌, ◌-◌, ◌*◌, ◌/◌, ◌%◌, Bool, cond, ◌&&◌, Some, None, Option, ◌==◌, nat_le, nat_lt}
-use Rattle.layout.specs.declared.Place.{Place}
+use Rattle.units.specs.declared.place.Place.{Place}
 use Rattle.layout.specs.declared.Member.{Member}
 use Rattle.layout.specs.Shape.{Shape, place_at, member_at}
 

@@ -5,17 +5,12 @@ ghost use Rattle.std.specs.Prelude.{◌≡◌};
 ghost use Rattle.layout.specs.Examples.{PlacingExamples};
 ghost use Rattle.layout.specs.Shape.{data_units, found, PlacingLaw, Shape, Small};
 
+pub use units::place::Place;
+
 pub mod chain;
 pub mod lookup;
 pub mod pair;
 pub mod raid5;
-
-// A row of a disk, which holds one unit.
-#[derive(Clone, Copy, PartialEq, Eq, Debug)]
-pub struct Place {
-    pub disk: usize,
-    pub row: usize,
-}
 
 // A member of a stripe, by its index there: the data members from 0 on, then the check.
 #[derive(Clone, Copy, PartialEq, Eq, Debug)]

@@ -39,8 +39,8 @@ fn stands_on<L: Layout>(layout: &L, stripe: usize, index: usize, disk: usize) ->
 
 // The members of a stripe that stand on a disk: at most one, whatever the layout.
 pub fn members_on<L: Layout>(layout: &L, stripe: usize, disk: usize) -> Set
-    ensures each { (j : ℕ) → Decides (has result.bits j) (OnDisk (L.shape layout.now) stripe j disk) }
-    ensures one { count_ones result.bits ≤ 1 }
+    ensures each { (j : ℕ) → Decides (has result j) (OnDisk (L.shape layout.now) stripe j disk) }
+    ensures one { count_ones result ≤ 1 }
 {
     let mut members = Set::EMPTY;
     for index in 0..layout.width() {

@@ -1,13 +1,18 @@
 -- How many numbers a set has, which they are in order, and the lowest of them.
-use Rattle.std.proofs.Common.{◌≡◌, ℕ, zero, suc, ◌+◌, ◌/◌, ◌%◌, ◌^◌, ◌<◌, ◌≤◌, Bool, true, false, cond, ◌&&◌, eqb, [], ◌∷◌, length, get_or, sym, refl, ap, ◌∙◌, inl, inr, pow-suc, arith}
+use Rattle.std.proofs.Common.{◌≡◌, ℕ, zero, suc, ◌+◌, ◌/◌, ◌%◌, ◌^◌, ◌<◌, ◌≤◌, Bool, true, false, cond, ◌&&◌, eqb, List, [], ◌∷◌, length, get_or, sym, refl, ap, ap₂, ◌∙◌, inl, inr, pow-suc, arith}
 use lib.Bits.{bit_and, bit_or, or_disjoint}
-use lib.Count.{ones, ones_step, count_trailing_zeros, under}
-use Rattle.std.proofs.ByRecursion.{All-get_or, all-has, All-weaker, has_append_right}
+use lib.Count.{ones, ones_step, count_trailing_zeros}
+use Rattle.std.specs.Int.{w32}
+use Rattle.std.proofs.lemmas.Nat.Bits.{bit_at-trailing_zeros}
+use Rattle.std.proofs.lemmas.List.Elements.{All-filter, Contains-append_right, filter_passes}
+use Rattle.std.proofs.lemmas.List.FromFn.{get_or-range_with_len, length-range_with_len}
+use Rattle.std.proofs.lemmas.List.Kept.{IsStrictlyIncreasing-filter}
 use Rattle.std.proofs.lemmas.Bool.{both_ways, cases_eq, eqb-false, eqb-true}
 use Rattle.std.proofs.lemmas.Bool.Decides.{nat_tests}
-use Rattle.std.specs.List.{ContainsAt as Has, AllByRecursion as All}
-use Rattle.units.specs.Sets.{elements, elements_from, has, Lowest}
-use Rattle.units.proofs.Sets.{below_pow, has_and, has_ext, has_none, has_pow, has_suc, has_zero}
+use Rattle.std.specs.List.{All, Contains, filter, range_with_len}
+use Rattle.std.specs.List.Sorted.{IsStrictlyIncreasing}
+use Rattle.units.specs.Sets.{elements, has}
+use Rattle.units.proofs.Sets.{has_and, has_ext, has_none, has_pow, has_suc, has_zero}
 
 -- ---- the digit of the number 0
 
@@ -63,18 +68,18 @@ ones_one s i j few hi hj = elim (cases_eq i j) [ inl e ↦ e | inr ne ↦ absurd
 
 -- ---- the numbers of a set, in order
 
--- the numbers from suc i on are as many as those of the half from i on
-elements_half : (s i n : ℕ) → length (elements_from s (suc i) n) ≡ length (elements_from (s / 2) i n)
-elements_half s i zero = refl
-elements_half s i (suc n) =
-    ap (λ t. length (cond t (suc i ∷ elements_from s (suc (suc i)) n) (elements_from s (suc (suc i)) n))) (has_suc s i)
-    ∙ more (has (s / 2) i) (elements_half s (suc i) n)
-  where
-    more : (t : Bool) → length (elements_from s (suc (suc i)) n) ≡ length (elements_from (s / 2) (suc i) n)
-        → length (cond t (suc i ∷ elements_from s (suc (suc i)) n) (elements_from s (suc (suc i)) n))
-        ≡ length (cond t (i ∷ elements_from (s / 2) (suc i) n) (elements_from (s / 2) (suc i) n))
-    more true e = ap suc e
-    more false e = e
+length-kept : (t : Bool) (x : ℕ) (xs : List ℕ) → length (cond t (x ∷ xs) xs) ≡ cond t (suc (length xs)) (length xs)
+length-kept true x xs = refl
+length-kept false x xs = refl
+
+-- the numbers from a + 1 on are as many as those of the half from a on
+length-half : (s a n : ℕ) → length (filter (has s) (range_with_len (a + 1) n)) ≡ length (filter (has (s / 2)) (range_with_len a n))
+length-half s a zero = refl
+length-half s a (suc n) =
+    let next : a + 1 ≡ suc a = omega arith in
+    length-kept (has s (a + 1)) (a + 1) (filter (has s) (range_with_len (a + 1 + 1) n))
+    ∙ ap₂ (λ t m. cond t (suc m) m) (ap (has s) next ∙ has_suc s a) (length-half s (a + 1) n)
+    ∙ sym (length-kept (has (s / 2) a) a (filter (has (s / 2)) (range_with_len (a + 1) n)))
 
 -- a set has as many numbers as its number has ones
 pub ones_elements : (n s : ℕ) → s < 2 ^ n → ones s ≡ length (elements n s)
@@ -82,100 +87,71 @@ unfolding elements
 ones_elements zero s h = let e : s ≡ 0 = omega arith in ap ones e ∙ ones_none
 ones_elements (suc n) s h =
     ones_step s
-    ∙ ap (λ m. s % 2 + m) (ones_elements n (s / 2) (omega (arith, pow-suc 2 n)) ∙ sym (elements_half s 0 n))
+    ∙ ap (λ m. s % 2 + m) (ones_elements n (s / 2) (omega (arith, pow-suc 2 n)) ∙ sym (length-half s 0 n))
     ∙ first (has s 0) (odd_in s) (even_out s)
+    ∙ sym (length-kept (has s 0) 0 (filter (has s) (range_with_len 1 n)))
   where
     first : (t : Bool) → (t ≡ true → s % 2 ≡ 1) → (t ≡ false → s % 2 ≡ 0)
-        → s % 2 + length (elements_from s 1 n) ≡ length (cond t (0 ∷ elements_from s 1 n) (elements_from s 1 n))
+        → s % 2 + length (filter (has s) (range_with_len 1 n)) ≡ cond t (suc (length (filter (has s) (range_with_len 1 n)))) (length (filter (has s) (range_with_len 1 n)))
     first true odd even = omega (arith, odd refl)
     first false odd even = omega (arith, even refl)
 
--- x is in the set, and one of the n numbers from i on
-abbrev InPart : ℕ → ℕ → ℕ → ℕ → Type 0
-InPart s i n x = (has s x ≡ true) × (i ≤ x) × (x < i + n)
-
-elements_all : (s i n : ℕ) → All (InPart s i n) (elements_from s i n)
-elements_all s i zero = tt
-elements_all s i (suc n) = first (has s i) refl (All-weaker (InPart s (suc i) n) (InPart s i (suc n)) wider _ (elements_all s (suc i) n))
-  where
-    wider : (x : ℕ) → InPart s (suc i) n x → InPart s i (suc n) x
-    wider x h = (h.0, omega arith, omega arith)
-
-    first : (t : Bool) → has s i ≡ t → All (InPart s i (suc n)) (elements_from s (suc i) n)
-        → All (InPart s i (suc n)) (cond t (i ∷ elements_from s (suc i) n) (elements_from s (suc i) n))
-    first true is rest = ((is, omega arith, omega arith), rest)
-    first false is rest = rest
-
--- a number is listed exactly where it is in the set and in range
-pub elements-has : (n s x : ℕ) → Has (elements n s) x → (has s x ≡ true) × (x < n)
+-- the numbers listed are in the set and in range
+pub elements_in : (n s : ℕ) → All (λ x. (has s x ≡ true) × (x < n)) (elements n s)
 unfolding elements
-elements-has n s x h = let part = all-has (InPart s 0 n) (elements n s) x (elements_all s 0 n) h in (part.0, omega arith)
-
-from_has : (s i n x : ℕ) → InPart s i n x → Has (elements_from s i n) x
-from_has s i zero x h = absurd (omega arith)
-from_has s i (suc n) x h =
-    elim (cases_eq i x) [
-      | inl e ↦ first (has s i) (ap (has s) e ∙ h.0) e
-      | inr ne ↦ rest (has s i) (from_has s (suc i) n x (h.0, omega arith, omega arith))
-    ]
+elements_in n s k d h = (filter_passes (has s) (range_with_len 0 n) k d h, All-filter (has s) (λ x. x < n) (range_with_len 0 n) below k d h)
   where
-    first : (t : Bool) → t ≡ true → i ≡ x → Has (cond t (i ∷ elements_from s (suc i) n) (elements_from s (suc i) n)) x
-    first true is e = (0, omega arith, λ d. e)
-    first false is e = absurd (both_ways false refl is)
+    below : All (λ x. x < n) (range_with_len 0 n)
+    below j e l = let in_range : j < n = omega (arith, length-range_with_len 0 n) in omega (arith, get_or-range_with_len 0 n j e in_range)
 
-    rest : (t : Bool) → Has (elements_from s (suc i) n) x → Has (cond t (i ∷ elements_from s (suc i) n) (elements_from s (suc i) n)) x
-    rest true l = has_append_right (i ∷ []) (elements_from s (suc i) n) x l
-    rest false l = l
+-- what passes the test is kept
+kept : (p : ℕ → Bool) (xs : List ℕ) (x : ℕ) → p x ≡ true → Contains xs x → Contains (filter p xs) x
+kept p [] x t (k, l, e) = absurd (omega arith)
+kept p (y ∷ ys) x t (zero, l, e) = first (p y) (ap p e ∙ t)
+  where
+    first : (b : Bool) → b ≡ true → Contains (cond b (y ∷ filter p ys) (filter p ys)) x
+    first true _ = (0, omega arith, e)
+    first false is = absurd (both_ways false refl is)
+kept p (y ∷ ys) x t (suc k, l, e) = rest (p y) (kept p ys x t (k, omega arith, e))
+  where
+    rest : (b : Bool) → Contains (filter p ys) x → Contains (cond b (y ∷ filter p ys) (filter p ys)) x
+    rest true c = Contains-append_right (y ∷ []) (filter p ys) x c
+    rest false c = c
 
-pub has-elements : (n s x : ℕ) → has s x ≡ true → x < n → Has (elements n s) x
+-- a number in the set and in range is listed
+pub has-elements : (n s x : ℕ) → has s x ≡ true → x < n → Contains (elements n s) x
 unfolding elements
-has-elements n s x h l = from_has s 0 n x (h, omega arith, omega arith)
-
-from_rising : (s i n j k : ℕ) → j < k → k < length (elements_from s i n) → get_or (elements_from s i n) j 0 < get_or (elements_from s i n) k 0
-from_rising s i zero j k h l = absurd (omega (arith, l))
-from_rising s i (suc n) j k h l = more (has s i) j k h l (from_rising s (suc i) n)
-  where
-    more : (t : Bool) (j k : ℕ) → j < k → k < length (cond t (i ∷ elements_from s (suc i) n) (elements_from s (suc i) n))
-        → ((j k : ℕ) → j < k → k < length (elements_from s (suc i) n) → get_or (elements_from s (suc i) n) j 0 < get_or (elements_from s (suc i) n) k 0)
-        → get_or (cond t (i ∷ elements_from s (suc i) n) (elements_from s (suc i) n)) j 0 < get_or (cond t (i ∷ elements_from s (suc i) n) (elements_from s (suc i) n)) k 0
-    more true j zero h l rest = absurd (omega (arith, h))
-    more true zero (suc k) h l rest = (All-get_or (InPart s (suc i) n) (elements_from s (suc i) n) k 0 (omega (arith, l)) (elements_all s (suc i) n)).1
-    more true (suc j) (suc k) h l rest = rest j k (omega arith) (omega (arith, l))
-    more false j k h l rest = rest j k h l
+has-elements n s x h l =
+    let here : x < length (range_with_len 0 n) = omega (arith, length-range_with_len 0 n) in
+    kept (has s) (range_with_len 0 n) x h (x, here, omega (arith, get_or-range_with_len 0 n x x l))
 
 -- the numbers rise
-pub elements_rising : (n s j k : ℕ) → j < k → k < length (elements n s) → get_or (elements n s) j 0 < get_or (elements n s) k 0
+pub elements_rising : (n s : ℕ) → IsStrictlyIncreasing (elements n s)
 unfolding elements
-elements_rising n s = from_rising s 0 n
+elements_rising n s = IsStrictlyIncreasing-filter (has s) (range_with_len 0 n) rising
+  where
+    rising : IsStrictlyIncreasing (range_with_len 0 n)
+    rising k h =
+        let in_range : k + 1 < n = omega (arith, length-range_with_len 0 n) in
+        omega (arith, get_or-range_with_len 0 n k 0 (omega arith), get_or-range_with_len 0 n (k + 1) 0 in_range)
 
--- the number listed at place k is in the set
-pub elements_in : (n s k : ℕ) → k < length (elements n s) → has s (get_or (elements n s) k 0) ≡ true
-unfolding elements
-elements_in n s k l = (All-get_or (InPart s 0 n) (elements n s) k 0 l (elements_all s 0 n)).0
+-- a number n, and so each set n, is below 2 ^ n
+below_pow : (n : ℕ) → n < 2 ^ n
+below_pow zero = omega arith
+below_pow (suc n) = omega (arith, pow-suc 2 n, below_pow n)
 
 -- two different numbers of a set that has two
 pub two_out : (s : ℕ) → 2 ≤ ones s → (i : ℕ) × (j : ℕ) × (i ≡ j → ⊥) × (has s i ≡ true) × (has s j ≡ true)
 two_out s h =
     let l : 1 < length (elements s s) = omega (arith, ones_elements s s (below_pow s)) in
-    let rises = elements_rising s s 0 1 (omega arith) l in
-    (get_or (elements s s) 0 0, get_or (elements s s) 1 0, λ e. omega arith, elements_in s s 0 (omega arith), elements_in s s 1 l)
+    let rises = elements_rising s s 0 l in
+    (get_or (elements s s) 0 0, get_or (elements s s) 1 0, λ e. omega arith, (elements_in s s 0 0 (omega arith)).0, (elements_in s s 1 0 l).0)
 
--- ---- the lowest number of a set
+-- ---- the lowest number of a set, as `Set::lowest` finds it
 
-pub lowest_trailing : (k s : ℕ) → 0 < s → s < 2 ^ k → Lowest s (count_trailing_zeros k s)
-unfolding count_trailing_zeros
-lowest_trailing zero s pos h = absurd (omega arith)
-lowest_trailing (suc k) s pos h =
-    digit (s % 2) refl (λ even. lowest_trailing k (s / 2) (omega arith) (omega (arith, pow-suc 2 k)))
-  where
-    digit : (d : ℕ) → s % 2 ≡ d → (s % 2 ≡ 0 → Lowest (s / 2) (count_trailing_zeros k (s / 2))) → Lowest s (under d (count_trailing_zeros k (s / 2)))
-    digit zero e half =
-        let low = half e in
-        record { there = has_suc s _ ∙ low.there; none_below = below }
-      where
-        below : (j : ℕ) → j < suc (count_trailing_zeros k (s / 2)) → has s j ≡ false
-        below zero l = has_zero s ∙ ap (λ n. eqb n 1) e
-        below (suc j) l = has_suc s j ∙ (half e).none_below j (omega arith)
-    digit (suc d) e half =
-        let odd : s % 2 ≡ 1 = omega arith in
-        record { there = has_zero s ∙ ap (λ n. eqb n 1) odd; none_below = λ j l. absurd (omega arith) }
+pub lowest_there : (s : ℕ) → 0 < s → s < 2 ^ 32 → has s (count_trailing_zeros 32 s) ≡ true
+lowest_there s some h = ap (λ n. eqb n 1) (bit_at-trailing_zeros w32 s some h).1
+
+pub none_below_lowest : (s j : ℕ) → s < 2 ^ 32 → j < count_trailing_zeros 32 s → has s j ≡ false
+none_below_lowest zero j h l = has_none j
+none_below_lowest (suc s) j h l = ap (λ n. eqb n 1) ((bit_at-trailing_zeros w32 (suc s) (omega arith) h).2 j l)

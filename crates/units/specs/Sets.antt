@@ -1,18 +1,15 @@
 -- Sets of small numbers (members, disks, buffers, nodes), each held in one number. Assumes nothing.
-use Rattle.std.specs.Prelude.{◌≡◌, ℕ, zero, suc, ◌/◌, ◌%◌, ◌^◌, ◌<◌, Bool, true, false, cond, List, [], ◌∷◌, ◌==◌}
+use Rattle.std.specs.Prelude.{◌≡◌, ℕ, ◌<◌, Bool, true, false, List, ◌==◌, filter}
+use Rattle.std.specs.List.{range_with_len}
+use Rattle.std.specs.Int.{bit_at}
 
 -- i is in the set s: bit i of s is set
 abbrev pub has : ℕ → ℕ → Bool
-has s i = s / 2 ^ i % 2 == 1
-
--- the n numbers from i on that are in the set, rising
-abbrev pub elements_from : ℕ → ℕ → ℕ → List ℕ
-elements_from s i zero = []
-elements_from s i (suc n) = cond (has s i) (i ∷ elements_from s (suc i) n) (elements_from s (suc i) n)
+has s i = bit_at s i == 1
 
 -- the numbers below n that are in the set, rising; shut, since at a numeral n it would unfold into n tests
 unfoldable pub elements : ℕ → ℕ → List ℕ
-elements n s = elements_from s 0 n
+elements n s = filter (has s) (range_with_len 0 n)
 
 -- every number in a is in b
 abbrev pub Subset : ℕ → ℕ → Type 0

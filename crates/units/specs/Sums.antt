@@ -1,5 +1,5 @@
 -- Values that can be added, units among them, and the laws of the sum. Assumes nothing.
-use Rattle.std.specs.Prelude.{◌≡◌, ℕ, zero, suc, ◌<◌, cond, List, ◌==◌, nat_lt}
+use Rattle.std.specs.Prelude.{◌≡◌, ℕ, zero, suc, ◌<◌, if◌then◌else◌, List, ◌==◌, nat_lt}
 use Rattle.units.specs.Units.{IsUnit, plus, zeros}
 
 -- values that can be added; `none` is the sum of no values
@@ -27,11 +27,11 @@ module _ {A : Type 0} (o : Sums A) where
 
   -- the values with the one at m left out
   abbrev pub without : (ℕ → A) → ℕ → ℕ → A
-  without f m i = cond (i == m) o.none (f i)
+  without f m i = if i == m then o.none else f i
 
   -- the members of a stripe whose k data members are f: the check is their sum
   abbrev pub with_check : ℕ → (ℕ → A) → ℕ → A
-  with_check k f j = cond (nat_lt j k) (f j) (sum_below f k)
+  with_check k f j = if nat_lt j k then f j else sum_below f k
 
 -- a stripe of v members is sound when they sum to zeros
 abbrev pub Sound : ℕ → (ℕ → List ℕ) → Type 0

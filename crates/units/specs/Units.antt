@@ -1,5 +1,6 @@
 -- Units of bytes and their sum, and the units of a pool. Assumes nothing.
-use Rattle.std.specs.Prelude.{◌≡◌, ℕ, ◌+◌, ◌*◌, ◌/◌, Bool, cond, ◌&&◌, List, [], ◌∷◌, ◌++◌, length, take, drop, replicate, bit_xor, nat_lt}
+use Rattle.std.specs.Prelude.{◌≡◌, ℕ, ◌+◌, ◌*◌, ◌/◌, Bool, ◌&&◌, List, [], ◌∷◌, ◌++◌, length, take, drop, replicate, bit_xor, Ok, Err, Result, nat_lt, if◌then◌else◌}
+use Rattle.units.specs.declared.unit.NoSuchUnit.{NoSuchUnit}
 
 -- a unit has 512 bytes
 abbrev pub IsUnit : List ℕ → Type 0
@@ -38,4 +39,13 @@ holds_unit pool i = nat_lt i (length pool / 512)
 -- the pool with its unit `from` added to its unit `to`, where it has both; else the pool as it is
 abbrev pub with_sum : List ℕ → ℕ → ℕ → List ℕ
 with_sum pool to from =
-    cond (holds_unit pool to && holds_unit pool from) (with_unit pool to (plus (unit_at pool to) (unit_at pool from))) pool
+    if holds_unit pool to && holds_unit pool from then with_unit pool to (plus (unit_at pool to) (unit_at pool from)) else pool
+
+-- the byte at which unit i of a pool begins, or the fault that the pool has no such unit
+abbrev pub start_of : List ℕ → ℕ → Result ℕ NoSuchUnit
+start_of pool i = if holds_unit pool i then Ok (i * 512) else Err (record { unit = i })
+
+-- what such a sum answers: served where the pool has both units, else the first that it has not
+abbrev pub sum_answer : List ℕ → ℕ → ℕ → Result (Unit {0}) NoSuchUnit
+sum_answer pool to from =
+    if holds_unit pool to then (if holds_unit pool from then Ok tt else Err (record { unit = from })) else Err (record { unit = to })

@@ -1,6 +1,6 @@
-// Units of 512 bytes with their sum, and sets of small numbers.
+// Units of 512 bytes with their sum, places, and sets of small numbers.
 #![tactic(auto)]
 
-mod laws;
+pub mod place;
 pub mod set;
 pub mod unit;

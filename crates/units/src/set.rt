@@ -1,89 +1,115 @@
 // A set of numbers from 0 to 31: members, disks, buffers or nodes.
-ghost use Rattle.std.specs.Prelude.{◌≡◌, ℕ, false, not, ◌&&◌, ◌||◌, length, Decides, MatchOption, ◌==◌, count_ones, nat_lt};
+ghost use Rattle.std.specs.Prelude.{◌≡◌, ℕ, ◌<◌, ◌↔◌, false, not, ◌&&◌, ◌||◌, length, IsTrue, MatchOption, ◌==◌, count_ones, nat_lt};
 ghost use Rattle.units.specs.Sets.{elements, has, Lowest, Subset};
 
-use super::laws;
+use std::marker::Model;
 
 // How many numbers a set can hold.
 pub const LIMIT: usize = 32;
 
-// Number i is in the set where bit i of `bits` is set.
+// Number i is in the set where bit i of `bits` is set. Contracts see a set as that number.
 #[derive(Clone, Copy, PartialEq, Eq, Debug)]
 pub struct Set {
-    pub bits: u32,
+    bits: u32,
+}
+
+impl Model for Set {
+    ghost Value = { ℕ };
+
+    ghost view = { λ s. s.bits };
+
+    ghost inverse = { λ n. record { bits = n } };
 }
 
 impl Set {
     pub const EMPTY: Set = Set { bits: 0 };
 
+    #[tactic(auto, using(crate::proofs::Sets::contained, crate::proofs::Sets::none_over))]
     pub fn contains(self, i: usize) -> bool
-        ensures { result ≡ has self.bits i }
+        ensures { result ≡ has self i }
     {
-        laws::of_number(self.bits, i);
         i < LIMIT && (self.bits >> i) & 1 == 1
     }
 
     // Puts `i` in; a number over 31 is left out.
+    #[tactic(auto, using(crate::proofs::Sets::inserted))]
     pub fn insert(&mut self, i: usize)
-        ensures { (j : ℕ) → has self.new.bits j ≡ (has self.old.bits j || (j == i && nat_lt i 32)) }
+        ensures { (j : ℕ) → has self.new j ≡ (has self.old j || (j == i && nat_lt i 32)) }
     {
-        laws::of_number(self.bits, i);
         if i < LIMIT {
             self.bits |= 1 << i;
         }
     }
 
+    #[tactic(auto, using(crate::proofs::Sets::removed, crate::proofs::Sets::none_over))]
     pub fn remove(&mut self, i: usize)
-        ensures { (j : ℕ) → has self.new.bits j ≡ (has self.old.bits j && not (j == i)) }
+        ensures { (j : ℕ) → has self.new j ≡ (has self.old j && not (j == i)) }
     {
-        laws::of_number(self.bits, i);
+        let bits = self.bits;
         if i < LIMIT {
-            self.bits &= !(1 << i);
+            self.bits = bits & !(1 << i);
         }
     }
 
+    #[tactic(auto, using(crate::proofs::Sets::has_or))]
     pub fn union(self, other: Set) -> Set
-        ensures { (j : ℕ) → has result.bits j ≡ (has self.bits j || has other.bits j) }
+        ensures { (j : ℕ) → has result j ≡ (has self j || has other j) }
     {
-        laws::of_two(self.bits, other.bits);
         Set {
             bits: self.bits | other.bits,
         }
     }
 
+    #[tactic(auto, using(crate::proofs::Sets::left))]
     pub fn difference(self, other: Set) -> Set
-        ensures { (j : ℕ) → has result.bits j ≡ (has self.bits j && not (has other.bits j)) }
+        ensures { (j : ℕ) → has result j ≡ (has self j && not (has other j)) }
     {
-        laws::of_two(self.bits, other.bits);
         Set {
             bits: self.bits & !other.bits,
         }
     }
 
+    #[tactic(auto, using(crate::proofs::Sets::within))]
     pub fn is_subset(self, other: Set) -> bool
-        ensures { Decides result (Subset self.bits other.bits) }
+        ensures { IsTrue result ↔ Subset self other }
     {
-        laws::of_two(self.bits, other.bits);
         self.bits & other.bits == self.bits
     }
 
     // How many numbers are in the set.
+    #[tactic(auto, using(crate::proofs::Counts::ones_elements))]
     pub fn len(self) -> u32
-        ensures ones { result ≡ count_ones self.bits }
-        ensures counts { result ≡ length (elements 32 self.bits) }
+        ensures ones { result ≡ count_ones self }
+        ensures counts { result ≡ length (elements 32 self) }
     {
-        laws::of_set(self.bits);
         self.bits.count_ones()
     }
 
     // The lowest number in the set, or none where it is empty.
+    #[tactic(auto, using(crate::proofs::Counts::lowest_there, crate::proofs::Counts::none_below_lowest, crate::proofs::Sets::has_none))]
     pub fn lowest(self) -> Option<usize>
-        ensures { MatchOption result ((j : ℕ) → has self.bits j ≡ false) (λ i. Lowest self.bits i) }
+        ensures { MatchOption result ((j : ℕ) → has self j ≡ false) (λ i. Lowest self i) }
     {
-        laws::of_set(self.bits);
         if self.bits == 0 {
             return None;
         }
         Some(self.bits.trailing_zeros() as usize)
+    }
+}
+
+// The set whose numbers are the set bits, and back.
+impl From<u32> for Set {
+    ghost from_gives = { λ bits s. s ≡ bits };
+
+    fn from(bits: u32) -> Set {
+        Set { bits }
+    }
+}
+
+impl From<Set> for u32 {
+    ghost from_gives = { λ s bits. bits ≡ s };
+
+    fn from(set: Set) -> u32 {
+        set.bits
     }
 }

@@ -7,8 +7,8 @@ use Rattle.layout.proofs.lookup.members_on.Goals as goal
 pub returns : goal.returns
 returns g c =
     let p = g.L.Layout.shape c.args.layout.now in
-    let each : (j : ℕ) → Decides (has c.loop-index.members.bits j) (OnDisk p c.args.stripe j c.args.disk) = search rules in
+    let each : (j : ℕ) → Decides (has c.loop-index.members j) (OnDisk p c.args.stripe j c.args.disk) = search rules in
     record {
       each = each;
-      one = one_on_disk p (g.met.L.Layout.placing c.args.layout.now) c.args.stripe c.args.disk c.loop-index.members.bits each;
+      one = one_on_disk p (g.met.L.Layout.placing c.args.layout.now) c.args.stripe c.args.disk c.loop-index.members each;
     }

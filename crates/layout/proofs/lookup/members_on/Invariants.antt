@@ -6,4 +6,4 @@ use Rattle.layout.proofs.lookup.members_on.Given as goal
 -- the members below the index that stand on the disk
 abbrev pub invariant-loop-index : goal.invariant-loop-index
 invariant-loop-index g l =
-    (j : ℕ) → Decides (has l.members.bits j) ((j < l.index) × OnDisk (g.L.Layout.shape l.layout) l.stripe j l.disk)
+    (j : ℕ) → Decides (has l.members j) ((j < l.index) × OnDisk (g.L.Layout.shape l.layout) l.stripe j l.disk)

@@ -1,7 +1,7 @@
 -- One byte more is summed.
 use Rattle.std.proofs.Common.{arith}
 use Rattle.units.proofs.Sums.{summed_none, summed_more}
-use Rattle.units.proofs.unit.add.Goals as goal
+use Rattle.units.proofs.unit.add_bytes.Goals as goal
 
 pub loop-i-init : goal.loop-i-init
 loop-i-init c = summed_none c.args.target.now c.args.source.now (omega arith) (omega arith)
