@@ -8,6 +8,7 @@ ghost use Rattle.layout.specs.Shape.{data_units, found, PlacingLaw, Shape, Small
 pub use units::place::Place;
 
 pub mod chain;
+mod grid;
 pub mod lookup;
 pub mod pair;
 pub mod raid5;
