@@ -1,5 +1,5 @@
 -- What follows from the placing law, for any layout. Assumes nothing.
-use Rattle.std.proofs.Common.{◌≡◌, ℕ, ◌<◌, ◌≤◌, true, Some, Decides, sym, ap, ◌∙◌, subst, inl, inr, arith}
+use Rattle.std.proofs.Common.{◌≡◌, ℕ, ◌<◌, ◌≤◌, true, Some, IsTrue, ◌↔◌, sym, ap, ◌∙◌, subst, inl, inr, arith}
 use lib.Count.{ones}
 use Rattle.std.proofs.lemmas.Nat.{mod_below, div_below}
 use Rattle.std.proofs.lemmas.Bool.{cases_lt}
@@ -13,7 +13,7 @@ pub units_are_members : (p : Shape) → PlacingLaw p → UnitsAreMembers p
 units_are_members p law u h = (div_below u (data_width p) p.stripes (omega arith) h, mod_below u (data_width p) (omega arith))
 
 -- a stripe has at most one member on a disk
-pub one_on_disk : (p : Shape) → PlacingLaw p → (s d set : ℕ) → ((j : ℕ) → Decides (has set j) (OnDisk p s j d)) → ones set ≤ 1
+pub one_on_disk : (p : Shape) → PlacingLaw p → (s d set : ℕ) → ((j : ℕ) → IsTrue (has set j) ↔ OnDisk p s j d) → ones set ≤ 1
 one_on_disk p law s d set each = elim (cases_lt (ones set) 2) [
   | inl few ↦ omega arith
   | inr two ↦

@@ -49,7 +49,7 @@ impl Layout for Chain {
         self.stripes()
     }
 
-    fn place(&self, stripe: usize, index: usize) -> Option<Place> {
+    fn place(&self, Member { stripe, index }: Member) -> Option<Place> {
         if stripe >= self.stripes() || index >= self.width() {
             return None;
         }
@@ -67,7 +67,7 @@ impl Layout for Chain {
         }
     }
 
-    fn owner(&self, disk: usize, row: usize) -> Option<Member> {
+    fn owner(&self, Place { disk, row }: Place) -> Option<Member> {
         let half = self.grid.rows / 2;
         if disk >= self.grid.disks || row >= half + half {
             return None;

@@ -1,9 +1,9 @@
 // Layouts: on which disk and in which row each member of each stripe stands.
 #![tactic(auto)]
 
-ghost use Rattle.std.specs.Prelude.{◌≡◌};
+ghost use Rattle.std.specs.Prelude.{◌≡◌, ◌<◌, IfSome};
 ghost use Rattle.layout.specs.Examples.{PlacingExamples};
-ghost use Rattle.layout.specs.Shape.{data_units, found, PlacingLaw, Shape, Small};
+ghost use Rattle.layout.specs.Shape.{data_units, found, PlacingLaw, Shape};
 
 pub use units::place::Place;
 
@@ -43,13 +43,13 @@ pub trait Layout {
         ensures { result ≡ data_units (shape self.now) };
 
     // Where the member stands, or none out of range.
-    fn place(&self, stripe: usize, index: usize) -> Option<Place>
-        ensures found { result ≡ found (shape self.now) stripe index }
-        ensures small { Small result };
+    fn place(&self, member: Member) -> Option<Place>
+        ensures found { result ≡ found (shape self.now) member.stripe member.index }
+        ensures small { IfSome result (λ place. place.disk < 16) };
 
     // The member that stands there, or none out of range or where nobody owns the place.
-    fn owner(&self, disk: usize, row: usize) -> Option<Member>
-        ensures { result ≡ (shape self.now).owner disk row };
+    fn owner(&self, place: Place) -> Option<Member>
+        ensures { result ≡ (shape self.now).owner place.disk place.row };
 
     ghost placing: { (l : Self) → PlacingLaw (shape l) };
 }

@@ -1,5 +1,5 @@
 // Questions to any layout, answered from the placing law alone.
-ghost use Rattle.std.specs.Prelude.{◌≡◌, ℕ, ◌<◌, ◌≤◌, Decides, count_ones};
+ghost use Rattle.std.specs.Prelude.{◌≡◌, ℕ, ◌<◌, ◌≤◌, ◌↔◌, IsTrue, count_ones};
 ghost use Rattle.units.specs.Sets.{has};
 ghost use Rattle.layout.specs.Shape.{FoundData, OnDisk, unit_member, UnitsAreMembers};
 
@@ -28,23 +28,20 @@ fn data_members<L: Layout>(layout: &L)
 {}
 
 // Whether the member is one of the layout's and stands on the disk.
-fn stands_on<L: Layout>(layout: &L, stripe: usize, index: usize, disk: usize) -> bool
-    ensures { Decides result (OnDisk (L.shape layout.now) stripe index disk) }
+fn stands_on<L: Layout>(layout: &L, member: Member, disk: usize) -> bool
+    ensures { IsTrue result ↔ OnDisk (L.shape layout.now) member.stripe member.index disk }
 {
-    match layout.place(stripe, index) {
-        Some(place) => place.disk == disk,
-        None => false,
-    }
+    layout.place(member).is_some_and(|place| place.disk == disk)
 }
 
 // The members of a stripe that stand on a disk: at most one, whatever the layout.
 pub fn members_on<L: Layout>(layout: &L, stripe: usize, disk: usize) -> Set
-    ensures each { (j : ℕ) → Decides (has result j) (OnDisk (L.shape layout.now) stripe j disk) }
+    ensures each { (j : ℕ) → IsTrue (has result j) ↔ OnDisk (L.shape layout.now) stripe j disk }
     ensures one { count_ones result ≤ 1 }
 {
     let mut members = Set::EMPTY;
     for index in 0..layout.width() {
-        if stands_on(layout, stripe, index, disk) {
+        if stands_on(layout, Member { stripe, index }, disk) {
             members.insert(index);
         }
     }

@@ -53,7 +53,7 @@ impl Layout for Pair {
         self.stripes()
     }
 
-    fn place(&self, stripe: usize, index: usize) -> Option<Place> {
+    fn place(&self, Member { stripe, index }: Member) -> Option<Place> {
         if stripe >= self.stripes() || index >= self.width() {
             return None;
         }
@@ -64,7 +64,7 @@ impl Layout for Pair {
         })
     }
 
-    fn owner(&self, disk: usize, row: usize) -> Option<Member> {
+    fn owner(&self, Place { disk, row }: Place) -> Option<Member> {
         if disk >= self.grid.disks || row >= self.grid.rows {
             return None;
         }

@@ -56,7 +56,7 @@ impl Layout for Raid5 {
         self.grid.rows * (self.grid.disks - 1)
     }
 
-    fn place(&self, stripe: usize, index: usize) -> Option<Place> {
+    fn place(&self, Member { stripe, index }: Member) -> Option<Place> {
         if stripe >= self.grid.rows || index >= self.grid.disks {
             return None;
         }
@@ -69,7 +69,7 @@ impl Layout for Raid5 {
         Some(Place { disk, row: stripe })
     }
 
-    fn owner(&self, disk: usize, row: usize) -> Option<Member> {
+    fn owner(&self, Place { disk, row }: Place) -> Option<Member> {
         if disk >= self.grid.disks || row >= self.grid.rows {
             return None;
         }
