@@ -44,12 +44,12 @@ pub trait Layout {
 
     // Where the member stands, or none out of range.
     fn place(&self, member: Member) -> Option<Place>
-        ensures found { result ≡ found (shape self.now) member.stripe member.index }
+        ensures found { result ≡ found (shape self.now) member }
         ensures small { IfSome result (λ place. place.disk < 16) };
 
     // The member that stands there, or none out of range or where nobody owns the place.
     fn owner(&self, place: Place) -> Option<Member>
-        ensures { result ≡ (shape self.now).owner place.disk place.row };
+        ensures { result ≡ (shape self.now).owner place };
 
     ghost placing: { (l : Self) → PlacingLaw (shape l) };
 }
