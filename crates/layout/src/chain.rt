@@ -45,10 +45,6 @@ impl Layout for Chain {
         2
     }
 
-    fn data_units(&self) -> usize {
-        self.stripes()
-    }
-
     fn place(&self, Member { stripe, index }: Member) -> Option<Place> {
         if stripe >= self.stripes() || index >= self.width() {
             return None;

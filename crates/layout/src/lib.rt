@@ -39,8 +39,12 @@ pub trait Layout {
         ensures { result ≡ (shape self.now).width };
 
     // How many data units the stripes hold in all.
+    #[tactic(auto, using(crate::proofs::Spots::few_units))]
     fn data_units(&self) -> usize
-        ensures { result ≡ data_units (shape self.now) };
+        ensures { result ≡ data_units (shape self.now) }
+    {
+        self.stripes() * (self.width() - 1)
+    }
 
     // Where the member stands, or none out of range.
     fn place(&self, member: Member) -> Option<Place>

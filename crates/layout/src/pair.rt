@@ -49,10 +49,6 @@ impl Layout for Pair {
         2
     }
 
-    fn data_units(&self) -> usize {
-        self.stripes()
-    }
-
     fn place(&self, Member { stripe, index }: Member) -> Option<Place> {
         if stripe >= self.stripes() || index >= self.width() {
             return None;

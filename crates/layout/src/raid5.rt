@@ -52,10 +52,6 @@ impl Layout for Raid5 {
         self.grid.disks
     }
 
-    fn data_units(&self) -> usize {
-        self.grid.rows * (self.grid.disks - 1)
-    }
-
     fn place(&self, Member { stripe, index }: Member) -> Option<Place> {
         if stripe >= self.grid.rows || index >= self.grid.disks {
             return None;
