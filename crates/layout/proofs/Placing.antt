@@ -1,8 +1,7 @@
 -- What follows from the placing law, for any layout. Assumes nothing.
-use Rattle.std.proofs.Common.{◌≡◌, ℕ, ◌<◌, ◌≤◌, Some, IsTrue, ◌↔◌, sym, ap, ◌∙◌, subst, refl, inl, inr, arith}
+use Rattle.std.proofs.Common.{◌≡◌, ℕ, ◌<◌, ◌≤◌, Some, IsTrue, ◌↔◌, sym, ◌∙◌, refl, inl, inr, arith}
 use lib.Count.{ones}
 use Rattle.std.proofs.lemmas.Bool.{cases_lt}
-use Rattle.std.proofs.lemmas.Option.{same_Some}
 use Rattle.units.specs.Sets.{has}
 use Rattle.units.proofs.Counts.{two_out}
 use Rattle.units.specs.declared.place.Place.{Place}
@@ -17,15 +16,14 @@ one_on_disk p law s d set each = elim (cases_lt (ones set) 2) [
       let t = two_out set two in
       let a = (each t.0).0 t.3 in
       let b = (each t.1).0 t.4 in
-      absurd (t.2 (ap (λ m. m.index) (law.apart (member_at s t.0) (member_at s t.1) a.0 b.0 refl (a.1 ∙ sym b.1))))
+      let one = law.apart (member_at s t.0) (member_at s t.1) a.0 b.0 refl (a.1 ∙ sym b.1) in grind arith
 ]
 
 -- no two members stand at one place
 pub same_place : (p : Shape) → PlacingLaw p → (m w : Member) → IsMember p m → IsMember p w → p.place m ≡ p.place w → m ≡ w
-same_place p law m w hm hw e = same_Some m w (sym (law.owned m hm) ∙ ap p.owner e ∙ law.owned w hw)
+same_place p law m w hm hw e = let a = law.owned m hm in let b = law.owned w hw in grind arith
 
 -- a place that has an owner is in range
 pub owner_below : (p : Shape) → PlacingLaw p → (q : Place) (m : Member) → p.owner q ≡ Some m → (q.disk < p.disks) × (q.row < p.rows)
 owner_below p law q m e =
-    let stands = law.placed q m e in
-    subst (λ q. (q.disk < p.disks) × (q.row < p.rows)) stands.1 (law.disk_below m stands.0, law.row_below m stands.0)
+    let stands = law.placed q m e in let disk = law.disk_below m stands.0 in let row = law.row_below m stands.0 in grind arith
