@@ -2,7 +2,7 @@
 use crate::volume::Volume;
 use anyhow::anyhow;
 use layout::lookup::unit_member;
-use layout::{Layout, Member};
+use layout::{Layout, Member, Place};
 use report::{Label, Table};
 use std::alloc::{AllocError, Global};
 use std::io;
@@ -81,7 +81,7 @@ fn compare<L: Layout + Copy + Drop>(
     let mut all = 0usize;
     let mut right = 0usize;
     for row in 0..layout.rows() {
-        if let Some(member) = layout.owner(disk, row) {
+        if let Some(member) = layout.owner(Place { disk, row }) {
             all = all.saturating_add(1);
             if volume.read(member) == original.read(member) {
                 right = right.saturating_add(1);
@@ -100,7 +100,7 @@ fn rebuild<L: Layout + Copy + Drop>(
 ) -> io::Result<()> {
     let layout = volume.layout();
     for row in 0..layout.rows() {
-        match layout.owner(disk, row) {
+        match layout.owner(Place { disk, row }) {
             Some(member) => {
                 let unit = volume.sum_of_others(member);
                 volume.write(member, unit);

@@ -32,7 +32,7 @@ impl<L: Layout + Copy + Drop> Volume<L> {
 
     // The unit of a member; zeros out of range.
     pub fn read(&self, member: Member) -> Unit {
-        match self.layout.place(member.stripe, member.index) {
+        match self.layout.place(member) {
             Some(place) => self
                 .units
                 .get(self.number(place))
@@ -50,7 +50,7 @@ impl<L: Layout + Copy + Drop> Volume<L> {
     }
 
     pub fn write(&mut self, member: Member, unit: Unit) {
-        if let Some(place) = self.layout.place(member.stripe, member.index) {
+        if let Some(place) = self.layout.place(member) {
             self.put(place, unit);
         }
     }

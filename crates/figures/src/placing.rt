@@ -89,10 +89,9 @@ impl Tally {
 
 fn members_back<L: Layout>(layout: &L, stripe: usize, tally: &mut Tally) {
     for index in 0..layout.width() {
-        match layout.place(stripe, index) {
-            Some(place) => tally.count(
-                layout.owner(place.disk, place.row) == Some(Member { stripe, index }),
-            ),
+        let member = Member { stripe, index };
+        match layout.place(member) {
+            Some(place) => tally.count(layout.owner(place) == Some(member)),
             None => tally.count_none(),
         }
     }
@@ -100,10 +99,9 @@ fn members_back<L: Layout>(layout: &L, stripe: usize, tally: &mut Tally) {
 
 fn places_back<L: Layout>(layout: &L, disk: usize, tally: &mut Tally) {
     for row in 0..layout.rows() {
-        match layout.owner(disk, row) {
-            Some(member) => tally.count(
-                layout.place(member.stripe, member.index) == Some(Place { disk, row }),
-            ),
+        let place = Place { disk, row };
+        match layout.owner(place) {
+            Some(member) => tally.count(layout.place(member) == Some(place)),
             None => tally.count_none(),
         }
     }
@@ -179,18 +177,20 @@ pub fn out_of_range(rt: &HostRuntime) -> anyhow::Result<()> {
 fn strays<L: Layout>(rt: &HostRuntime, name: &str, layout: &L) -> io::Result<()> {
     let far = usize::MAX;
     let places = [
-        layout.place(layout.stripes(), 0),
-        layout.place(0, layout.width()),
-        layout.place(far, 0),
-        layout.place(0, far),
-        layout.place(far, far),
-    ];
+        (layout.stripes(), 0),
+        (0, layout.width()),
+        (far, 0),
+        (0, far),
+        (far, far),
+    ]
+    .map(|(stripe, index)| layout.place(Member { stripe, index }));
     let owners = [
-        layout.owner(layout.disks(), 0),
-        layout.owner(0, layout.rows()),
-        layout.owner(far, 0),
-        layout.owner(0, far),
-        layout.owner(far, far),
-    ];
+        (layout.disks(), 0),
+        (0, layout.rows()),
+        (far, 0),
+        (0, far),
+        (far, far),
+    ]
+    .map(|(disk, row)| layout.owner(Place { disk, row }));
     println!(rt; "  {name}: places {places:?}, owners {owners:?}")
 }

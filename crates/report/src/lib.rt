@@ -1,7 +1,7 @@
 // A layout as a table of who stands where, for people to read.
 #![tactic(auto)]
 
-use layout::{Layout, Member};
+use layout::{Layout, Member, Place};
 use std::fmt;
 
 // A member of stripes of `width` members by a short name: D and the number of its data unit, or C and its stripe for a check.
@@ -67,7 +67,7 @@ impl<L: Layout> fmt::Display for Table<'_, L> {
         for row in 0..rows {
             write!(f, "\n {row:>4}")?;
             for disk in 0..disks {
-                write_cell(f, self.layout.owner(disk, row), width)?;
+                write_cell(f, self.layout.owner(Place { disk, row }), width)?;
             }
         }
         Ok(())
