@@ -5,6 +5,7 @@ use Rattle.std.specs.Result as results
 use Rattle.shelf.specs.declared.fault.FaultShelf.{FaultShelf}
 use Rattle.shelf.specs.declared.script.Cause.{Cause}
 use Rattle.shelf.specs.Meaning.{Answer, Meaning, Reads, Renews, Within, Writes}
+use Rattle.units.specs.declared.place.Place.{Place}
 use Rattle.shelf.specs.Script.{BringsBack, code, Counts, due}
 
 module _ {S : Type 0} (meant : S → Meaning) where
@@ -41,14 +42,14 @@ module _ {S : Type 0} (meant : S → Meaning) where
         (λ _. (t.script ≡ s.script) × (t.marks ≡ s.marks))
 
   -- what the fault shelf says of its calls: what passes down is one call below, which goes by its relation and by what that shelf says besides
-  abbrev pub Reading : (S → ℕ → ℕ → List ℕ → Answer → List ℕ → S → Type 0) → FaultShelf S → ℕ → ℕ → List ℕ → Answer → List ℕ → FaultShelf S → Type 0
-  Reading besides s d r before a after t =
-      ByScript s d r (length before) a t
-      (Reads (meant s.below) d r before a after (meant t.below) × besides s.below d r before a after t.below)
+  abbrev pub Reading : (S → Place → List ℕ → Answer → List ℕ → S → Type 0) → FaultShelf S → Place → List ℕ → Answer → List ℕ → FaultShelf S → Type 0
+  Reading besides s p before a after t =
+      ByScript s p.disk p.row (length before) a t
+      (Reads (meant s.below) p.disk p.row before a after (meant t.below) × besides s.below p before a after t.below)
 
-  abbrev pub Writing : (S → ℕ → ℕ → List ℕ → Answer → S → Type 0) → FaultShelf S → ℕ → ℕ → List ℕ → Answer → FaultShelf S → Type 0
-  Writing besides s d r bs a t =
-      ByScript s d r (length bs) a t (Writes (meant s.below) d r bs a (meant t.below) × besides s.below d r bs a t.below)
+  abbrev pub Writing : (S → Place → List ℕ → Answer → S → Type 0) → FaultShelf S → Place → List ℕ → Answer → FaultShelf S → Type 0
+  Writing besides s p bs a t =
+      ByScript s p.disk p.row (length bs) a t (Writes (meant s.below) p.disk p.row bs a (meant t.below) × besides s.below p bs a t.below)
 
   abbrev pub Renewing : (S → ℕ → Answer → S → Type 0) → FaultShelf S → ℕ → Answer → FaultShelf S → Type 0
   Renewing besides s d a t = PassesRenewal s d a t (Renews (meant s.below) d a (meant t.below) × besides s.below d a t.below)

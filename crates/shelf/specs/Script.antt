@@ -1,5 +1,5 @@
 -- A script of faults: its lines, and which access of a disk is to fault. Assumes nothing.
-use Rattle.std.specs.Prelude.{◌≡◌, ℕ, ◌+◌, min, Bool, true, false, cond, ◌&&◌, List, [], ◌∷◌, ◌++◌, length, take, replicate, Some, None, Ok, Err, Option, Result, MatchResult, ◌==◌, nat_le, nat_lt, slice_index, slice_index_or, slice_set}
+use Rattle.std.specs.Prelude.{if◌then◌else◌, ◌≡◌, ℕ, ◌+◌, min, Bool, true, false, cond, ◌&&◌, List, [], ◌∷◌, ◌++◌, length, take, replicate, Some, None, Ok, Err, Option, ok_or, option_map, Result, MatchResult, ◌==◌, nat_le, nat_lt, slice_index, slice_index_or, slice_set}
 use Rattle.denial.specs.declared.Denial.{Denial}
 use Rattle.denial.specs.declared.Denial.TheVariants.{BadFaultLine, TooManyFaultLines}
 use Rattle.shelf.specs.declared.script.Cause.{Cause}
@@ -17,20 +17,17 @@ code Late = 4
 
 -- the cause that has this number
 abbrev pub cause_of : ℕ → Option Cause
-cause_of n = cond (n == 2) (Some Medium) (cond (n == 3) (Some Gone) (cond (n == 4) (Some Late) None))
+cause_of n = if n == 2 then Some Medium else (if n == 3 then Some Gone else (if n == 4 then Some Late else None))
 
 -- a line names a disk from 0 to 31 and an access from 1 to 2,147,483,647
 abbrev pub line_range : ℕ → ℕ → Bool
 line_range d n = nat_le d 31 && (nat_le 1 n && nat_le n 2147483647)
 
--- the line with this cause, or the denial where there is none
-abbrev pub line_with : ℕ → ℕ → Option Cause → Result FaultLine Denial
-line_with d n None = Err BadFaultLine
-line_with d n (Some c) = Ok (record { disk = d; at = n; cause = c })
-
 -- the line of these numbers, or the denial of a line out of range
 abbrev pub line_of : ℕ → ℕ → ℕ → Result FaultLine Denial
-line_of d n c = cond (line_range d n) (line_with d n (cause_of c)) (Err BadFaultLine)
+line_of d n c =
+    if line_range d n then ok_or (option_map (λ k. record { disk = d; at = n; cause = k }) (cause_of c)) BadFaultLine
+    else Err BadFaultLine
 
 -- the lines with one more, or the denial of a bad line or of a 33rd
 abbrev pub one_more : List FaultLine → Result FaultLine Denial → Result (List FaultLine) Denial

@@ -9,6 +9,7 @@ use crate::script::{Cause, FaultScript};
 use crate::{MOST_DISKS, Shelf};
 use denial::Denial;
 use denial::fault::ShelfFault;
+use units::place::Place;
 
 // It counts the accesses in range, faults those that are due, and passes the others down. It keeps marks of its own.
 #[derive(Drop)]
@@ -67,18 +68,18 @@ impl<S: Shelf> FaultShelf<S> {
     }
 
     // Marks the disk here, and gives the fault of this cause.
-    fn fail(&mut self, disk: usize, row: usize, cause: Cause) -> ShelfFault
-        requires { disk < 32 }
-        ensures fault { result ≡ record { code = code cause; disk = disk; row = row } }
-        ensures marks { self.new.marks ≡ slice_set self.old.marks disk true }
+    fn fail(&mut self, place: Place, cause: Cause) -> ShelfFault
+        requires { place.disk < 32 }
+        ensures fault { result ≡ record { code = code cause; disk = place.disk; row = place.row } }
+        ensures marks { self.new.marks ≡ slice_set self.old.marks place.disk true }
         ensures below { self.new.below ≡ self.old.below }
         ensures script { self.new.script ≡ self.old.script }
     {
-        self.marks[disk] = true;
+        self.marks[place.disk] = true;
         ShelfFault {
             code: cause.code(),
-            disk,
-            row,
+            disk: place.disk,
+            row: place.row,
         }
     }
 }
@@ -94,20 +95,20 @@ impl<S: Shelf> Shelf for FaultShelf<S> {
 
     ghost lawful = { Prim.search rules };
 
-    fn read(&mut self, disk: usize, row: usize, buffer: &mut [u8]) -> Result<(), ShelfFault> {
-        self.extent().check(disk, row, buffer.len())?;
-        if let Some(cause) = self.script.access(disk) {
-            return Err(self.fail(disk, row, cause));
+    fn read(&mut self, place: Place, buffer: &mut [u8]) -> Result<(), ShelfFault> {
+        self.extent().check(place, buffer.len())?;
+        if let Some(cause) = self.script.access(place.disk) {
+            return Err(self.fail(place, cause));
         }
-        self.below.read(disk, row, buffer)
+        self.below.read(place, buffer)
     }
 
-    fn write(&mut self, disk: usize, row: usize, bytes: &[u8]) -> Result<(), ShelfFault> {
-        self.extent().check(disk, row, bytes.len())?;
-        if let Some(cause) = self.script.access(disk) {
-            return Err(self.fail(disk, row, cause));
+    fn write(&mut self, place: Place, bytes: &[u8]) -> Result<(), ShelfFault> {
+        self.extent().check(place, bytes.len())?;
+        if let Some(cause) = self.script.access(place.disk) {
+            return Err(self.fail(place, cause));
         }
-        self.below.write(disk, row, bytes)
+        self.below.write(place, bytes)
     }
 
     fn renew(&mut self, disk: usize) -> Result<(), ShelfFault> {

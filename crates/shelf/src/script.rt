@@ -13,9 +13,9 @@ pub const MOST_LINES: usize = 32;
 // Why an access faults: the medium cannot be read or written there, the disk is gone, or it answers too late.
 #[derive(Clone, Copy, PartialEq, Eq, Debug)]
 pub enum Cause {
-    Medium,
-    Gone,
-    Late,
+    Medium = 2,
+    Gone = 3,
+    Late = 4,
 }
 
 // The disk's `at`th read or write faults with this cause.

@@ -1,5 +1,6 @@
 // What a script does with a new line, an access and a renewal.
-ghost use Rattle.std.specs.Prelude.{◌≡◌, ◌<◌, [], ◌∷◌, ◌++◌};
+ghost use Rattle.std.specs.Prelude.{◌≡◌, ◌<◌, [], ◌∷◌, ◌++◌, ok_or};
+ghost use Rattle.denial.specs.declared.Denial.TheVariants.{BadFaultLine};
 ghost use Rattle.shelf.specs.History.{FaultsByHistory};
 ghost use Rattle.shelf.specs.Script.{Adds, BringsBack, cause_of, code, count, Counts, due, first_cause, Fresh, line_of, lines, matches};
 
@@ -8,29 +9,29 @@ use crate::MOST_DISKS;
 use denial::Denial;
 
 // The last access that a line may name.
-const LAST_ACCESS: usize = 2_147_483_647;
+const LAST_ACCESS: u32 = 2_147_483_647;
 
 impl Cause {
     // The code of a fault with this cause, which is also the cause's number in a line.
     pub fn code(self) -> u8
         ensures { result ≡ code self }
     {
-        match self {
-            Cause::Medium => 2,
-            Cause::Gone => 3,
-            Cause::Late => 4,
-        }
+        self as u8
     }
+}
 
-    // The cause with this number.
-    pub fn from_code(number: usize) -> Option<Cause>
-        ensures { result ≡ cause_of number }
-    {
+// The cause with this number.
+impl TryFrom<usize> for Cause {
+    type Error = Denial;
+
+    ghost try_from_gives = { λ number r. r ≡ ok_or (cause_of number) BadFaultLine };
+
+    fn try_from(number: usize) -> Result<Cause, Denial> {
         match number {
-            2 => Some(Cause::Medium),
-            3 => Some(Cause::Gone),
-            4 => Some(Cause::Late),
-            _ => None,
+            2 => Ok(Cause::Medium),
+            3 => Ok(Cause::Gone),
+            4 => Ok(Cause::Late),
+            _ => Err(Denial::BadFaultLine),
         }
     }
 }
@@ -40,17 +41,12 @@ impl FaultLine {
     pub fn new(disk: usize, at: usize, cause: usize) -> Result<FaultLine, Denial>
         ensures { result ≡ line_of disk at cause }
     {
+        let at = u32::try_from(at).map_err(|_| Denial::BadFaultLine)?;
         if disk >= MOST_DISKS || at < 1 || at > LAST_ACCESS {
             return Err(Denial::BadFaultLine);
         }
-        match Cause::from_code(cause) {
-            Some(cause) => Ok(FaultLine {
-                disk,
-                at: at as u32,
-                cause,
-            }),
-            None => Err(Denial::BadFaultLine),
-        }
+        let cause = Cause::try_from(cause)?;
+        Ok(FaultLine { disk, at, cause })
     }
 
     // Whether the line is for this access of this disk.
