@@ -2,19 +2,17 @@
 use Rattle.std.specs.Prelude.{◌≡◌, ℕ, ◌+◌, ◌-◌, ◌*◌, ◌<◌, ◌≤◌, ◌&&◌, ◌⊎◌, List, ◌++◌, length, take, drop, replicate, ◌≢◌, nat_lt, refl}
 use Rattle.std.proofs.Common.{sym, ap, ◌∙◌, inl, inr, arith, length-append, length-drop}
 use Rattle.std.proofs.lemmas.List.{append_assoc, drop-append-le, drop_at, drop-drop, drop-replicate, drop-take, length-take-le, take-append-le, take-replicate, take-take, length-replicate}
+use Rattle.std.proofs.lemmas.Nat.{row_fits, same_from_place}
 use Rattle.std.proofs.lemmas.Bool.{ltb-true, cases_order, cases_Bool, and_parts, cond-true, cond-false}
 use Rattle.units.specs.Units.{unit_at, with_unit, zeros}
 use Rattle.units.proofs.Pools.{unit_at_other, unit_at_same}
 use Rattle.shelf.specs.Meaning.{Renewed, Stored, Within}
 use Rattle.shelf.specs.Memory.{bytes_at, memory, with_zeros, Zeroed}
-use Rattle.shelf.specs.Places.{in_range, next, place_fits}
+use Rattle.shelf.specs.Places.{in_range, place_fits}
 
 -- places have different numbers
 pub places_apart : (R d r e q : ℕ) → r < R → q < R → (e ≡ d → q ≢ r) → e * R + q ≢ d * R + r
-places_apart R d r e q h k ne same = elim (cases_order e d) [
-  | inl eq ↦ let s : e * R ≡ d * R = ap (λ x. x * R) eq in ne eq (omega arith)
-  | inr o ↦ elim o [ inl l ↦ omega (arith, next R e d l) | inr l ↦ omega (arith, next R d e l) ]
-]
+places_apart R d r e q h k ne same = let p = same_from_place e q d r R k h same in ne p.0 p.1
 
 -- two lists of bytes that agree on a place's unit hold the same there
 pub same_place : (n R : ℕ) (bs cs : List ℕ) (d r : ℕ)
@@ -78,7 +76,7 @@ module _ (bs : List ℕ) (i n : ℕ) (fits : i * 512 + n * 512 ≤ length bs) wh
 
 -- the bytes of a disk lie within the shelf's
 pub disk_fits : (n R : ℕ) (bs : List ℕ) (d : ℕ) → n * R * 512 ≤ length bs → d < n → d * R * 512 + R * 512 ≤ length bs
-disk_fits n R bs d whole h = omega (arith, next R d n h)
+disk_fits n R bs d whole h = omega (arith, row_fits d R n R h (omega arith))
 
 module _ (n R : ℕ) (bs cs : List ℕ) (d : ℕ) (whole : n * R * 512 ≤ length bs) (h : d < n) (is : cs ≡ with_zeros bs (d * R) R) where
   fits : d * R * 512 + R * 512 ≤ length bs
@@ -91,7 +89,7 @@ module _ (n R : ℕ) (bs cs : List ℕ) (d : ℕ) (whole : n * R * 512 ≤ lengt
   beside : (e q : ℕ) → q < R → (e ≢ d) → (e * R + q < d * R) ⊎ (d * R + R ≤ e * R + q)
   beside e q k ne = elim (cases_order e d) [
     | inl same ↦ absurd (ne same)
-    | inr o ↦ elim o [ inl l ↦ inl (omega (arith, next R e d l)) | inr l ↦ inr (omega (arith, next R d e l)) ]
+    | inr o ↦ elim o [ inl l ↦ inl (omega (arith, row_fits e R d R l (omega arith))) | inr l ↦ inr (omega (arith, row_fits d R e R l (omega arith))) ]
   ]
 
   -- zeros all over a disk renew it

@@ -1,7 +1,8 @@
 -- Each call of a shelf, seen from one place and one disk; then over lists of calls.
-use Rattle.std.proofs.Common.{◌≡◌, ℕ, ◌<◌, ◌≤◌, Bool, true, false, cond, eqb, ◌⊎◌, List, [], ◌∷◌, length, Some, None, Ok, Err, Option, sym, refl, ap, ◌∙◌, subst, ap₂, inl, inr, arith}
+use Rattle.std.proofs.Common.{◌≡◌, ℕ, ◌<◌, ◌≤◌, Bool, true, false, cond, eqb, ◌⊎◌, List, [], ◌∷◌, length, Some, Ok, Err, Option, sym, refl, ap, ◌∙◌, subst, ap₂, inl, inr, arith}
 use mathlib.Core.Logic.{⊎_map}
-use Rattle.std.proofs.lemmas.Bool.{cases_eq, cases_lt, cond-false, cond-true, eq-eqb, ne_eqb}
+use Rattle.std.proofs.lemmas.Bool.{cases_eq, cases_lt, cond_both, cond-false, cond-true, eq-eqb, ne_eqb}
+use Rattle.std.proofs.lemmas.Option.{none-some, same_Some}
 use Rattle.denial.specs.declared.fault.ShelfFault.{ShelfFault}
 use Rattle.shelf.specs.Meaning.{Answer, DiskFault, Marked, Meaning, out_of_range, Reads, Renewed, Renews, Spoilt, Stored, Within, Writes}
 use Rattle.shelf.proofs.Equal.{by_number, this_place}
@@ -25,7 +26,7 @@ module _ (d r : ℕ) (In P : Type 0) (which : In ⊎ (In → ⊥)) (inside : In 
   served : (u : Unit {0}) → ((In → ⊥) → Ok u ≡ out_of_range d r) → P
   served u outside = elim which [
     | inl w ↦ inside w
-    | inr o ↦ let e = outside o in let z : ◌≡◌ {A = ℕ} 0 1 = cc in absurd (omega arith)
+    | inr o ↦ let e = outside o in cc
   ]
 
   faulted : (f : ShelfFault) → (P → 2 ≤ f.code) → ((In → ⊥) → Err f ≡ out_of_range d r)
@@ -40,15 +41,7 @@ module _ (d r : ℕ) (In P : Type 0) (which : In ⊎ (In → ⊥)) (inside : In 
 
 -- a test that decides nothing
 either : {A : Type 0} (b : Bool) (x : A) → x ≡ cond b x x
-either true x = refl
-either false x = refl
-
--- nothing is known to be something
-nothing : {A B : Type 0} {x : A} → None ≡ Some x → B
-nothing e = let z : ◌≡◌ {A = ℕ} 0 1 = cc in absurd (omega arith)
-
-just : {A : Type 0} {x y : A} → Some x ≡ Some y → x ≡ y
-just e = cc
+either b x = cond_both b x x (λ y. x ≡ y) (λ _. refl) (λ _. refl)
 
 -- the place's bytes in m are those that are known, if any are
 Holds : Meaning → ℕ → ℕ → Option (List ℕ) → Type 0
@@ -60,12 +53,12 @@ Left f Change n m = ((eqb f.code 1 ≡ false) × Change) ⊎ ((eqb f.code 1 ≡ 
 
 module _ (f : ShelfFault) (Change : Type 0) (n m : Meaning) (left : Left f Change n m) where
   -- a disk's mark after a fault of disk e
-  left_mark : (d e : ℕ) → (Change → m.mark e ≡ true) → (Change → (g : ℕ) → (g ≡ e → ⊥) → m.mark g ≡ n.mark g)
-      → m.mark d ≡ cond (eqb d e) (marked_by (Err f) (n.mark d)) (n.mark d)
+  left_mark : (d e : ℕ) (b : Bool) → n.mark d ≡ b → (Change → m.mark e ≡ true)
+      → (Change → (g : ℕ) → (g ≡ e → ⊥) → m.mark g ≡ n.mark g) → m.mark d ≡ cond (eqb d e) (marked_by (Err f) b) b
   unfolding Left
-  left_mark d e there others = elim left [
-    | inl p ↦ by_number d e _ _ _ (λ is. ap m.mark is ∙ there p.1 ∙ sym (cond-false _ _ _ p.0)) (others p.1 d)
-    | inr p ↦ let same = ap (λ x. x.mark d) p.1 in by_number d e _ _ _ (λ is. same ∙ sym (cond-true _ _ _ p.0)) (λ ne. same)
+  left_mark d e b was there others = elim left [
+    | inl p ↦ by_number d e _ _ _ (λ is. ap m.mark is ∙ there p.1 ∙ sym (cond-false _ _ _ p.0)) (λ ne. others p.1 d ne ∙ was)
+    | inr p ↦ let same = ap (λ x. x.mark d) p.1 ∙ was in by_number d e _ _ _ (λ is. same ∙ sym (cond-true _ _ _ p.0)) (λ ne. same)
   ]
 
   -- what holds of the change, and where there is none
@@ -123,13 +116,13 @@ bytes_step n m (read e q before (Err f) after) h d r first cs holds bs is =
 bytes_step n m (write e q us (Ok u)) h d r first cs holds bs is =
     let s = write_served n m e q us u h in
     elim (this_place d r e q) [
-      | inl p ↦ ap₂ m.bytes p.0 p.1 ∙ s.there ∙ just (sym (cond-true _ _ _ p.2) ∙ is)
+      | inl p ↦ ap₂ m.bytes p.0 p.1 ∙ s.there ∙ same_Some _ _ (sym (cond-true _ _ _ p.2) ∙ is)
       | inr p ↦ s.elsewhere d r p.0 ∙ holds bs (sym (cond-false _ _ _ p.1) ∙ is)
     ]
 bytes_step n m (write e q us (Err f)) h d r first cs holds bs is =
     elim (write_faulted n m e q us f h) [
       | inl w ↦ elim (this_place d r e q) [
-        | inl p ↦ nothing (sym (cond-false _ _ _ w.0) ∙ sym (cond-true _ _ _ p.2) ∙ is)
+        | inl p ↦ absurd (none-some _ (sym (cond-false _ _ _ w.0) ∙ sym (cond-true _ _ _ p.2) ∙ is))
         | inr p ↦ w.1.elsewhere d r p.0 ∙ holds bs (sym (cond-false _ _ _ p.1) ∙ is)
       ]
       | inr w ↦ ap (λ x. x.bytes d r) w.1 ∙ holds bs (elim (this_place d r e q) [
@@ -139,7 +132,7 @@ bytes_step n m (write e q us (Err f)) h d r first cs holds bs is =
     ]
 bytes_step n m (renew e (Ok u)) h d r first cs holds bs is =
     elim (cases_eq d e) [
-      | inl at ↦ nothing (sym (cond-true _ _ _ (eq-eqb d e at)) ∙ is)
+      | inl at ↦ absurd (none-some _ (sym (cond-true _ _ _ (eq-eqb d e at)) ∙ is))
       | inr ne ↦ (renew_served n m e u h).elsewhere d r ne ∙ holds bs (sym (cond-false _ _ _ (ne_eqb d e ne)) ∙ is)
     ]
 bytes_step n m (renew e (Err f)) h d r first cs holds bs is =
@@ -150,16 +143,16 @@ unfolding Left
 mark_step n m (read e q before (Ok u) after) h d first cs was =
     ap (λ x. x.mark d) (read_served n m e q before after u h) ∙ was ∙ either (eqb d e) _
 mark_step n m (read e q before (Err f) after) h d first cs was =
-    left_mark f _ n m (read_faulted n m e q before after f h) d e (λ p. p.there) (λ p. p.others) ∙ ap (λ b. cond (eqb d e) (marked_by (Err f) b) b) was
+    left_mark f _ n m (read_faulted n m e q before after f h) d e _ was (λ p. p.there) (λ p. p.others)
 mark_step n m (write e q us (Ok u)) h d first cs was =
     (write_served n m e q us u h).marks d ∙ was ∙ either (eqb d e) _
 mark_step n m (write e q us (Err f)) h d first cs was =
-    left_mark f _ n m (write_faulted n m e q us f h) d e (λ p. p.there) (λ p. p.others) ∙ ap (λ b. cond (eqb d e) (marked_by (Err f) b) b) was
+    left_mark f _ n m (write_faulted n m e q us f h) d e _ was (λ p. p.there) (λ p. p.others)
 mark_step n m (renew e (Ok u)) h d first cs was =
     let s = renew_served n m e u h in
     by_number d e _ _ _ (λ is. ap m.mark is ∙ s.there) (λ ne. s.others d ne ∙ was)
 mark_step n m (renew e (Err f)) h d first cs was =
-    left_mark f _ n m (renew_faulted n m e f h) d e (λ p. p.there) (λ p. p.others) ∙ ap (λ b. cond (eqb d e) (marked_by (Err f) b) b) was
+    left_mark f _ n m (renew_faulted n m e f h) d e _ was (λ p. p.there) (λ p. p.others)
 
 SameNumbers : Meaning → Meaning → Type 0
 SameNumbers n m = (m.disks ≡ n.disks) × (m.rows ≡ n.rows)
@@ -181,7 +174,7 @@ numbers_step n m (renew e (Err f)) h = left_either f _ n m (renew_faulted n m e 
 
 bytes_known : (m m' : Meaning) (cs : List Call) → Runs m cs m' → (d r : ℕ) → Holds m' d r (known m.bytes d r cs)
 unfolding Holds
-bytes_known m m' [] is d r bs k = ap (λ x. x.bytes d r) is ∙ just k
+bytes_known m m' [] is d r bs k = ap (λ x. x.bytes d r) is ∙ same_Some _ _ k
 bytes_known m m' (c ∷ cs) (n, (before, last)) d r bs k = bytes_step n m' c last d r m.bytes cs (bytes_known m n cs before d r) bs k
 
 marks_told : (m m' : Meaning) (cs : List Call) → Runs m cs m' → (d : ℕ) → m'.mark d ≡ marked_after m.mark d cs

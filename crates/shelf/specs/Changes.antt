@@ -1,5 +1,5 @@
 -- A meaning with one thing changed and nothing else, as a definition; and that each call leaves exactly such a meaning. Assumes nothing.
-use Rattle.std.specs.Prelude.{◌≡◌, ℕ, Bool, true, false, cond, ◌&&◌, List, ◌==◌}
+use Rattle.std.specs.Prelude.{◌≡◌, ℕ, Bool, true, false, if◌then◌else◌, ◌&&◌, List, ◌==◌}
 use Rattle.shelf.specs.Meaning.{Marked, Meaning, Renewed, Spoilt, Stored}
 
 -- other bytes at one place
@@ -7,7 +7,7 @@ abbrev pub with_bytes : Meaning → ℕ → ℕ → List ℕ → Meaning
 with_bytes m d r bs = record {
   disks = m.disks;
   rows = m.rows;
-  bytes = λ e q. cond (e == d && q == r) bs (m.bytes e q);
+  bytes = λ e q. if e == d && q == r then bs else m.bytes e q;
   mark = m.mark;
 }
 
@@ -16,7 +16,7 @@ abbrev pub with_disk : Meaning → ℕ → (ℕ → List ℕ) → Meaning
 with_disk m d bs = record {
   disks = m.disks;
   rows = m.rows;
-  bytes = λ e q. cond (e == d) (bs q) (m.bytes e q);
+  bytes = λ e q. if e == d then bs q else m.bytes e q;
   mark = m.mark;
 }
 
@@ -26,7 +26,7 @@ with_mark m d b = record {
   disks = m.disks;
   rows = m.rows;
   bytes = m.bytes;
-  mark = λ e. cond (e == d) b (m.mark e);
+  mark = λ e. if e == d then b else m.mark e;
 }
 
 -- what a call changes is given in full: only the bytes after a faulted write, and those of a renewed disk, are the shelf's choice

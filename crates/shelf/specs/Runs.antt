@@ -1,5 +1,5 @@
 -- A shelf over whole lists of calls: what its places hold and which disks are marked, told by the calls and their answers alone. Assumes nothing.
-use Rattle.std.specs.Prelude.{◌≡◌, ℕ, Bool, true, false, cond, ◌&&◌, List, [], ◌∷◌, Some, None, Ok, Err, Option, ◌==◌}
+use Rattle.std.specs.Prelude.{◌≡◌, ℕ, Bool, true, false, if◌then◌else◌, ◌&&◌, List, [], ◌∷◌, Some, None, Ok, Err, Option, ◌==◌}
 use Rattle.shelf.specs.Meaning.{Answer, Meaning, Reads, Renews, Writes}
 
 -- a call with its answer; a read with the buffer before and after
@@ -22,7 +22,7 @@ Runs m (c ∷ cs) m' = (n : Meaning) × (Runs m cs n × Goes n c m')
 -- what is known of the place's bytes after a write there
 abbrev pub after_write_there : Answer → List ℕ → Option (List ℕ) → Option (List ℕ)
 after_write_there (Ok _) bs before = Some bs
-after_write_there (Err f) bs before = cond (f.code == 1) before None
+after_write_there (Err f) bs before = if f.code == 1 then before else None
 
 -- what is known of the bytes on a disk after its renewal
 abbrev pub after_renewal_there : Answer → Option (List ℕ) → Option (List ℕ)
@@ -33,13 +33,13 @@ after_renewal_there (Err f) before = before
 abbrev pub known : (ℕ → ℕ → List ℕ) → ℕ → ℕ → List Call → Option (List ℕ)
 known first d r [] = Some (first d r)
 known first d r (read e q before a after ∷ cs) = known first d r cs
-known first d r (write e q bs a ∷ cs) = cond (d == e && r == q) (after_write_there a bs (known first d r cs)) (known first d r cs)
-known first d r (renew e a ∷ cs) = cond (d == e) (after_renewal_there a (known first d r cs)) (known first d r cs)
+known first d r (write e q bs a ∷ cs) = if d == e && r == q then after_write_there a bs (known first d r cs) else known first d r cs
+known first d r (renew e a ∷ cs) = if d == e then after_renewal_there a (known first d r cs) else known first d r cs
 
 -- a disk's mark after an answer of its own: set by a fault other than code 1
 abbrev pub marked_by : Answer → Bool → Bool
 marked_by (Ok _) before = before
-marked_by (Err f) before = cond (f.code == 1) before true
+marked_by (Err f) before = if f.code == 1 then before else true
 
 -- a disk's mark after the answer to its renewal: cleared where it is served
 abbrev pub marked_by_renewal : Answer → Bool → Bool
@@ -49,9 +49,9 @@ marked_by_renewal (Err f) before = marked_by (Err f) before
 -- a disk is marked when one of its calls faulted since its last served renewal, or it was marked at first and not renewed
 abbrev pub marked_after : (ℕ → Bool) → ℕ → List Call → Bool
 marked_after first d [] = first d
-marked_after first d (read e q before a after ∷ cs) = cond (d == e) (marked_by a (marked_after first d cs)) (marked_after first d cs)
-marked_after first d (write e q bs a ∷ cs) = cond (d == e) (marked_by a (marked_after first d cs)) (marked_after first d cs)
-marked_after first d (renew e a ∷ cs) = cond (d == e) (marked_by_renewal a (marked_after first d cs)) (marked_after first d cs)
+marked_after first d (read e q before a after ∷ cs) = if d == e then marked_by a (marked_after first d cs) else marked_after first d cs
+marked_after first d (write e q bs a ∷ cs) = if d == e then marked_by a (marked_after first d cs) else marked_after first d cs
+marked_after first d (renew e a ∷ cs) = if d == e then marked_by_renewal a (marked_after first d cs) else marked_after first d cs
 
 -- what the calls tell of a shelf afterwards: what is known of a place stands there, and a disk is marked as they say
 pub record Told (m : Meaning) (cs : List Call) (m' : Meaning) : Type 0 where
