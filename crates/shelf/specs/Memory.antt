@@ -20,13 +20,13 @@ new_memory disks rows bs =
 
 -- what a memory shelf means: its numbers over its bytes
 abbrev pub kept : MemoryShelf → Meaning
-kept s = memory s.disks s.rows (vec_items s.bytes)
+kept s = memory s.extent.disks s.extent.rows (vec_items s.bytes)
 
 -- ---- what its calls answer and leave: it never faults in range
 
 -- an access of n bytes is in range
 abbrev pub reached : MemoryShelf → Place → ℕ → Bool
-reached s p n = nat_lt p.disk s.disks && (nat_lt p.row s.rows && n == 512)
+reached s p n = nat_lt p.disk s.extent.disks && (nat_lt p.row s.extent.rows && n == 512)
 
 -- the answer to a read or write of n bytes
 abbrev pub access_answer : MemoryShelf → Place → ℕ → Answer
@@ -34,12 +34,12 @@ access_answer s p n = if reached s p n then Ok tt else out_of_range p.disk p.row
 
 -- the answer to a renewal
 abbrev pub renewal_answer : MemoryShelf → ℕ → Answer
-renewal_answer s d = if nat_lt d s.disks then Ok tt else out_of_range d 0
+renewal_answer s d = if nat_lt d s.extent.disks then Ok tt else out_of_range d 0
 
 -- all bytes after a write: another unit at the place, in range
 abbrev pub after_write : MemoryShelf → Place → List ℕ → List ℕ
 after_write s p us =
-    if reached s p (length us) then with_unit (vec_items s.bytes) (p.disk * s.rows + p.row) us else vec_items s.bytes
+    if reached s p (length us) then with_unit (vec_items s.bytes) (p.disk * s.extent.rows + p.row) us else vec_items s.bytes
 
 -- the bytes with n units of zeros from unit i on
 abbrev pub with_zeros : List ℕ → ℕ → ℕ → List ℕ
@@ -48,7 +48,7 @@ with_zeros bs i n = take (i * 512) bs ++ (replicate (n * 512) 0 ++ drop (i * 512
 -- all bytes after a renewal: zeros all over the disk, in range
 abbrev pub after_renewal : MemoryShelf → ℕ → List ℕ
 after_renewal s d =
-    if nat_lt d s.disks then with_zeros (vec_items s.bytes) (d * s.rows) s.rows else vec_items s.bytes
+    if nat_lt d s.extent.disks then with_zeros (vec_items s.bytes) (d * s.extent.rows) s.extent.rows else vec_items s.bytes
 
 -- every place of the disk holds zeros
 abbrev pub Zeroed : Meaning → ℕ → Type 0
@@ -64,4 +64,4 @@ Writing s p bs a t = (a ≡ access_answer s p (length bs)) × (vec_items t.bytes
 
 -- a renewal leaves zeros
 abbrev pub Renewing : MemoryShelf → ℕ → Answer → MemoryShelf → Type 0
-Renewing s d a t = (a ≡ renewal_answer s d) × (vec_items t.bytes ≡ after_renewal s d) × (d < s.disks → Zeroed (kept t) d)
+Renewing s d a t = (a ≡ renewal_answer s d) × (vec_items t.bytes ≡ after_renewal s d) × (d < s.extent.disks → Zeroed (kept t) d)
