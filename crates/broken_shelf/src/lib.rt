@@ -61,8 +61,8 @@ impl BrokenShelf {
     // What a read and a write of `len` bytes come to: in range a fault.
     fn access(&mut self, place: Place, len: usize) -> Result<(), ShelfFault>
         ensures faults { AlwaysFaults self.old place len result self.new }
-        ensures inside { Within 32 self.old.rows place.disk place.row len → Marked (broken self.old) place.disk (broken self.new) }
-        ensures outside { (Within 32 self.old.rows place.disk place.row len → ⊥) → (result ≡ out_of_range place.disk place.row) × (self.new ≡ self.old) }
+        ensures inside { Within 32 self.old.rows place len → Marked (broken self.old) place.disk (broken self.new) }
+        ensures outside { (Within 32 self.old.rows place len → ⊥) → (result ≡ out_of_range place) × (self.new ≡ self.old) }
     {
         self.extent().check(place, len)?;
         Err(self.fail(place))

@@ -30,7 +30,7 @@ module _ {S : Type 0} (meant : S → Meaning) where
 
   -- the access is in range of the shelf
   abbrev pub Reached : FaultShelf S → Place → ℕ → Type 0
-  Reached s p n = Within (meant s.below).disks (meant s.below).rows p.disk p.row n
+  Reached s p n = Within (meant s.below).disks (meant s.below).rows p n
 
   -- the fault of this cause is given: the shelf below is not asked, and the disk is marked here
   pub record FaultsHere (s : FaultShelf S) (p : Place) (answer : Answer) (t : FaultShelf S) (cause : Cause) : Type 0 where
@@ -55,11 +55,11 @@ module _ {S : Type 0} (meant : S → Meaning) where
   abbrev pub Reading : (S → Place → List ℕ → Answer → List ℕ → S → Type 0) → FaultShelf S → Place → List ℕ → Answer → List ℕ → FaultShelf S → Type 0
   Reading besides s p before a after t =
       ByScript s p (length before) a t
-      (Reads (meant s.below) p.disk p.row before a after (meant t.below) × besides s.below p before a after t.below)
+      (Reads (meant s.below) p before a after (meant t.below) × besides s.below p before a after t.below)
 
   abbrev pub Writing : (S → Place → List ℕ → Answer → S → Type 0) → FaultShelf S → Place → List ℕ → Answer → FaultShelf S → Type 0
   Writing besides s p bs a t =
-      ByScript s p (length bs) a t (Writes (meant s.below) p.disk p.row bs a (meant t.below) × besides s.below p bs a t.below)
+      ByScript s p (length bs) a t (Writes (meant s.below) p bs a (meant t.below) × besides s.below p bs a t.below)
 
   abbrev pub Renewing : (S → ℕ → Answer → S → Type 0) → FaultShelf S → ℕ → Answer → FaultShelf S → Type 0
   Renewing besides s d a t = PassesRenewal s d a t (Renews (meant s.below) d a (meant t.below) × besides s.below d a t.below)

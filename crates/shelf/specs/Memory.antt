@@ -1,13 +1,13 @@
 -- The memory shelf: which bytes stand at which place. Assumes nothing.
 use Rattle.std.specs.Prelude.{◌≡◌, ℕ, ◌+◌, ◌*◌, ◌<◌, Bool, false, if◌then◌else◌, ◌&&◌, List, [], ◌++◌, length, take, drop, replicate, Ok, vec_items, ◌==◌, nat_le, nat_lt}
 use Rattle.shelf.specs.declared.memory.MemoryShelf.{MemoryShelf}
-use Rattle.shelf.specs.Meaning.{Answer, Meaning, out_of_range}
+use Rattle.shelf.specs.Meaning.{Answer, first_of, Meaning, out_of_range}
 use Rattle.units.specs.declared.place.Place.{Place}
 use Rattle.units.specs.Units.{unit_at, with_unit, zeros}
 
 -- the bytes at a place: disk after disk, and of each disk row after row; none out of range
-abbrev pub bytes_at : ℕ → ℕ → List ℕ → ℕ → ℕ → List ℕ
-bytes_at disks rows bs d r = if nat_lt d disks && nat_lt r rows then unit_at bs (d * rows + r) else []
+abbrev pub bytes_at : ℕ → ℕ → List ℕ → Place → List ℕ
+bytes_at disks rows bs p = if nat_lt p.disk disks && nat_lt p.row rows then unit_at bs (p.disk * rows + p.row) else []
 
 -- a shelf over these bytes, which marks no disk
 abbrev pub memory : ℕ → ℕ → List ℕ → Meaning
@@ -30,11 +30,11 @@ reached s p n = nat_lt p.disk s.extent.disks && (nat_lt p.row s.extent.rows && n
 
 -- the answer to a read or write of n bytes
 abbrev pub access_answer : MemoryShelf → Place → ℕ → Answer
-access_answer s p n = if reached s p n then Ok tt else out_of_range p.disk p.row
+access_answer s p n = if reached s p n then Ok tt else out_of_range p
 
 -- the answer to a renewal
 abbrev pub renewal_answer : MemoryShelf → ℕ → Answer
-renewal_answer s d = if nat_lt d s.extent.disks then Ok tt else out_of_range d 0
+renewal_answer s d = if nat_lt d s.extent.disks then Ok tt else out_of_range (first_of d)
 
 -- all bytes after a write: another unit at the place, in range
 abbrev pub after_write : MemoryShelf → Place → List ℕ → List ℕ
@@ -52,7 +52,7 @@ after_renewal s d =
 
 -- every place of the disk holds zeros
 abbrev pub Zeroed : Meaning → ℕ → Type 0
-Zeroed m d = (r : ℕ) → r < m.rows → m.bytes d r ≡ zeros
+Zeroed m d = (p : Place) → p.disk ≡ d → p.row < m.rows → m.bytes p ≡ zeros
 
 -- what the memory shelf says of its calls: each answer goes by the range alone; a read changes nothing
 abbrev pub Reading : MemoryShelf → Place → List ℕ → Answer → List ℕ → MemoryShelf → Type 0

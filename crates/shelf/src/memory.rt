@@ -58,8 +58,8 @@ impl MemoryShelf {
 
     // Copies out the unit of a place in range.
     fn get(&self, place: Place, unit: &mut [u8])
-        requires { Within self.now.extent.disks self.now.extent.rows place.disk place.row (length unit.old) }
-        ensures { unit.new ≡ (kept self.now).bytes place.disk place.row }
+        requires { Within self.now.extent.disks self.now.extent.rows place (length unit.old) }
+        ensures { unit.new ≡ (kept self.now).bytes place }
     {
         let at = self.start(place);
         unit.copy_from_slice(&self.bytes[at..at + UNIT]);
@@ -67,8 +67,8 @@ impl MemoryShelf {
 
     // Puts another unit at a place in range.
     fn put(&mut self, place: Place, unit: &[u8])
-        requires { Within self.old.extent.disks self.old.extent.rows place.disk place.row (length unit.now) }
-        ensures stored { Stored (kept self.old) place.disk place.row unit.now (kept self.new) }
+        requires { Within self.old.extent.disks self.old.extent.rows place (length unit.now) }
+        ensures stored { Stored (kept self.old) place unit.now (kept self.new) }
         ensures bytes { self.new.bytes.items ≡ with_unit self.old.bytes.items (place.disk * self.old.extent.rows + place.row) unit.now }
     {
         let at = self.start(place);
