@@ -1,7 +1,5 @@
 -- The fault shelf: a shelf over another, whose accesses fault by a script. Assumes nothing.
-use Rattle.std.specs.Prelude.{◌≡◌, ℕ, Bool, not, ◌&&◌, ◌||◌, List, length, Err, ◌==◌}
-use Rattle.std.specs.Option as options
-use Rattle.std.specs.Result as results
+use Rattle.std.specs.Prelude.{◌≡◌, ℕ, Bool, not, ◌&&◌, ◌||◌, List, length, Err, MatchOption, MatchResult, ◌==◌}
 use Rattle.denial.specs.declared.fault.ShelfFault.{ShelfFault}
 use Rattle.shelf.specs.declared.fault.FaultShelf.{FaultShelf}
 use Rattle.shelf.specs.declared.script.Cause.{Cause}
@@ -42,12 +40,12 @@ module _ {S : Type 0} (meant : S → Meaning) where
   pub record ByScript (s : FaultShelf S) (p : Place) (n : ℕ) (answer : Answer) (t : FaultShelf S) (Passed : Type 0) : Type 0 where
     pub outside : (Reached s p n → ⊥) → t ≡ s
     pub counts : Reached s p n → Counts s.script p.disk t.script
-    pub goes : Reached s p n → options.MatchOption (due s.script p.disk) (Passed × (t.marks ≡ s.marks)) (FaultsHere s p answer t)
+    pub goes : Reached s p n → MatchOption (due s.script p.disk) (Passed × (t.marks ≡ s.marks)) (FaultsHere s p answer t)
 
   -- a renewal passes down; where it succeeds, the mark here is cleared and the disk is there again
   pub record PassesRenewal (s : FaultShelf S) (d : ℕ) (answer : Answer) (t : FaultShelf S) (Passed : Type 0) : Type 0 where
     pub passed : Passed
-    pub served : results.MatchResult answer
+    pub served : MatchResult answer
         (λ _. BringsBack s.script d t.script × ((e : ℕ) → has t.marks e ≡ (has s.marks e && not (e == d))))
         (λ _. (t.script ≡ s.script) × (t.marks ≡ s.marks))
 
