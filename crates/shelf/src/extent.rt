@@ -1,7 +1,8 @@
 // How far a shelf reaches, and the answer to what lies beyond.
-ghost use Rattle.std.specs.Prelude.{◌≡◌, ◌<◌, MatchResult};
-ghost use Rattle.shelf.specs.Meaning.{out_of_range, Within};
+ghost use Rattle.std.specs.Prelude.{◌≡◌, ◌<◌, ◌↔◌, IsOk, OnErr};
+ghost use Rattle.shelf.specs.Meaning.{first_of, out_of_range, Within};
 
+use crate::{Place, fault_at};
 use denial::fault::ShelfFault;
 use units::unit::UNIT;
 
@@ -14,28 +15,26 @@ pub struct Extent {
 
 impl Extent {
     // Fault 1 unless the place is one of the shelf's and `len` bytes are a unit.
-    pub fn check(self, disk: usize, row: usize, len: usize) -> Result<(), ShelfFault>
-        ensures { MatchResult result (λ _. Within self.disks self.rows disk row len) (λ f. (Within self.disks self.rows disk row len → ⊥) × (result ≡ out_of_range disk row)) }
+    pub fn check(self, place: Place, len: usize) -> Result<(), ShelfFault>
+        ensures within { IsOk result ↔ Within self.disks self.rows place len }
+        ensures outside { OnErr result (result ≡ out_of_range place) }
     {
-        if disk < self.disks && row < self.rows && len == UNIT {
+        if place.disk < self.disks && place.row < self.rows && len == UNIT {
             Ok(())
         } else {
-            Err(ShelfFault { code: 1, disk, row })
+            Err(fault_at(1, place))
         }
     }
 
     // Fault 1 unless the disk is one of the shelf's.
     pub fn check_disk(self, disk: usize) -> Result<(), ShelfFault>
-        ensures { MatchResult result (λ _. disk < self.disks) (λ f. (disk < self.disks → ⊥) × (result ≡ out_of_range disk 0)) }
+        ensures within { IsOk result ↔ (disk < self.disks) }
+        ensures outside { OnErr result (result ≡ out_of_range (first_of disk)) }
     {
         if disk < self.disks {
             Ok(())
         } else {
-            Err(ShelfFault {
-                code: 1,
-                disk,
-                row: 0,
-            })
+            Err(fault_at(1, Place { disk, row: 0 }))
         }
     }
 }

@@ -1,6 +1,6 @@
 // A call of a shelf as a value, so that a table of calls can be played and printed.
 use denial::fault::ShelfFault;
-use shelf::{MOST_DISKS, Shelf};
+use shelf::{MOST_DISKS, Place, Shelf};
 use std::fmt;
 use units::set::Set;
 use units::unit::UNIT;
@@ -99,7 +99,7 @@ fn untouched(buffer: &[u8]) -> bool {
 fn make_read<S: Shelf>(shelf: &mut S, disk: usize, row: usize, len: usize) -> Outcome {
     let mut bytes = [BLANK; LONGEST];
     let buffer = &mut bytes[..len.min(LONGEST)];
-    match shelf.read(disk, row, buffer) {
+    match shelf.read(Place { disk, row }, buffer) {
         Ok(()) => Outcome::Byte(buffer.first().copied().unwrap_or(BLANK)),
         Err(fault) => if untouched(buffer) {
             Outcome::Fault(fault)
@@ -117,7 +117,7 @@ fn make<S: Shelf>(shelf: &mut S, call: Call) -> Outcome {
             row,
             len,
             fill,
-        } => shelf.write(disk, row, &[fill; LONGEST][..len.min(LONGEST)]),
+        } => shelf.write(Place { disk, row }, &[fill; LONGEST][..len.min(LONGEST)]),
         Call::Renew { disk } => shelf.renew(disk),
     };
     match answer {
