@@ -5,72 +5,57 @@ use layout::pair::Pair;
 use layout::raid5::Raid5;
 use layout::{Layout, Member, Place};
 use report::Table;
-use std::fmt;
+use std::{fmt, io};
 
 // A layout with the name that it is printed under.
-trait Named: Layout + Drop {
+trait Named: Layout {
     const NAME: &'static str;
-
-    fn made(disks: usize, rows: usize) -> Result<Self, Denial>;
 }
 
 impl Named for Pair {
     const NAME: &'static str = "pair";
-
-    fn made(disks: usize, rows: usize) -> Result<Pair, Denial> {
-        Pair::new(disks, rows)
-    }
 }
 
 impl Named for Raid5 {
     const NAME: &'static str = "raid5";
-
-    fn made(disks: usize, rows: usize) -> Result<Raid5, Denial> {
-        Raid5::new(disks, rows)
-    }
 }
 
 impl Named for Chain {
     const NAME: &'static str = "chain";
-
-    fn made(disks: usize, rows: usize) -> Result<Chain, Denial> {
-        Chain::new(disks, rows)
-    }
 }
 
 pub fn tables(rt: &impl Print) -> anyhow::Result<()> {
     println!(rt;
         "Placing tables. D is a data unit, C the check of a stripe, - a place that nobody owns."
     )?;
-    table::<Pair>(rt, 2, 3)?;
-    table::<Pair>(rt, 6, 3)?;
-    table::<Raid5>(rt, 3, 4)?;
-    table::<Raid5>(rt, 5, 7)?;
-    table::<Raid5>(rt, 8, 9)?;
-    table::<Chain>(rt, 2, 2)?;
-    table::<Chain>(rt, 4, 6)?;
-    table::<Chain>(rt, 3, 5)
+    table(rt, &Pair::new(2, 3)?)?;
+    table(rt, &Pair::new(6, 3)?)?;
+    table(rt, &Raid5::new(3, 4)?)?;
+    table(rt, &Raid5::new(5, 7)?)?;
+    table(rt, &Raid5::new(8, 9)?)?;
+    table(rt, &Chain::new(2, 2)?)?;
+    table(rt, &Chain::new(4, 6)?)?;
+    table(rt, &Chain::new(3, 5)?)?;
+    Ok(())
 }
 
-fn table<L: Named>(rt: &impl Print, disks: usize, rows: usize) -> anyhow::Result<()> {
-    let layout = L::made(disks, rows)?;
-    println!(rt; "\n{}: {}", L::NAME, Table { layout: &layout })?;
-    Ok(())
+fn table<L: Named>(rt: &impl Print, layout: &L) -> io::Result<()> {
+    println!(rt; "\n{}: {}", L::NAME, Table { layout })
 }
 
 pub fn round_trips(rt: &impl Print) -> anyhow::Result<()> {
     println!(rt;
         "\nThere and back: owner(place(stripe, index)) over all members, place(owner(disk, row)) over all places."
     )?;
-    round_trip::<Pair>(rt, 16, 4096)?;
-    round_trip::<Raid5>(rt, 8, 4096)?;
-    round_trip::<Raid5>(rt, 7, 4096)?;
-    round_trip::<Chain>(rt, 16, 4096)?;
-    round_trip::<Chain>(rt, 15, 4095)
+    round_trip(rt, &Pair::new(16, 4096)?)?;
+    round_trip(rt, &Raid5::new(8, 4096)?)?;
+    round_trip(rt, &Raid5::new(7, 4096)?)?;
+    round_trip(rt, &Chain::new(16, 4096)?)?;
+    round_trip(rt, &Chain::new(15, 4095)?)?;
+    Ok(())
 }
 
-fn round_trip<L: Named>(rt: &impl Print, disks: usize, rows: usize) -> anyhow::Result<()> {
-    let layout = L::made(disks, rows)?;
+fn round_trip<L: Named>(rt: &impl Print, layout: &L) -> io::Result<()> {
     let members = Tally::of(layout.stripes(), layout.width(), |stripe, index| {
         layout.place(stripe, index).map(|place| layout.owner(place.disk, place.row)
             == Some(Member { stripe, index }))
@@ -86,8 +71,7 @@ fn round_trip<L: Named>(rt: &impl Print, disks: usize, rows: usize) -> anyhow::R
         layout.rows()
     )?;
     println!(rt; "  members: {members} have no place")?;
-    println!(rt; "  places: {places} have no owner")?;
-    Ok(())
+    println!(rt; "  places: {places} have no owner")
 }
 
 // How many questions were answered right, wrong and with none.
@@ -167,9 +151,9 @@ pub fn edges(rt: &impl Print) -> anyhow::Result<()> {
     for (disks, rows) in EDGES {
         println!(rt;
             "  {disks} x {rows}: {}, {}, {}",
-            Taken::of::<Pair>(disks, rows),
-            Taken::of::<Raid5>(disks, rows),
-            Taken::of::<Chain>(disks, rows)
+            Taken::of(Pair::new(disks, rows)),
+            Taken::of(Raid5::new(disks, rows)),
+            Taken::of(Chain::new(disks, rows))
         )?;
     }
     Ok(())
@@ -180,8 +164,8 @@ pub fn edges(rt: &impl Print) -> anyhow::Result<()> {
 struct Taken(Result<usize, Denial>);
 
 impl Taken {
-    fn of<L: Named>(disks: usize, rows: usize) -> Taken {
-        Taken(L::made(disks, rows).map(|layout| layout.data_units()))
+    fn of<L: Layout + Drop>(made: Result<L, Denial>) -> Taken {
+        Taken(made.map(|layout| layout.data_units()))
     }
 }
 
@@ -196,13 +180,13 @@ impl fmt::Display for Taken {
 
 pub fn out_of_range(rt: &impl Print) -> anyhow::Result<()> {
     println!(rt; "\nQuestions out of range, each answered by none.")?;
-    strays::<Pair>(rt, 6, 3)?;
-    strays::<Raid5>(rt, 5, 7)?;
-    strays::<Chain>(rt, 3, 5)
+    strays(rt, &Pair::new(6, 3)?)?;
+    strays(rt, &Raid5::new(5, 7)?)?;
+    strays(rt, &Chain::new(3, 5)?)?;
+    Ok(())
 }
 
-fn strays<L: Named>(rt: &impl Print, disks: usize, rows: usize) -> anyhow::Result<()> {
-    let layout = L::made(disks, rows)?;
+fn strays<L: Named>(rt: &impl Print, layout: &L) -> io::Result<()> {
     let far = usize::MAX;
     let places = [
         layout.place(layout.stripes(), 0),
@@ -218,6 +202,5 @@ fn strays<L: Named>(rt: &impl Print, disks: usize, rows: usize) -> anyhow::Resul
         layout.owner(0, far),
         layout.owner(far, far),
     ];
-    println!(rt; "  {}: places {places:?}, owners {owners:?}", L::NAME)?;
-    Ok(())
+    println!(rt; "  {}: places {places:?}, owners {owners:?}", L::NAME)
 }
