@@ -2,7 +2,7 @@
 use crate::volume::Volume;
 use anyhow::ensure;
 use layout::lookup::unit_member;
-use layout::{Layout, Member};
+use layout::{Layout, Member, Place};
 use report::{Label, Table};
 use std::alloc::{AllocError, Global};
 use std::{fmt, io};
@@ -88,7 +88,7 @@ impl Kept {
             right: 0,
             all: 0,
         };
-        for member in (0..layout.rows()).filter_map(|row| layout.owner(disk, row)) {
+        for member in (0..layout.rows()).filter_map(|row| layout.owner(Place { disk, row })) {
             kept.all = kept.all.saturating_add(1);
             if volume.read(member) == original.read(member) {
                 kept.right = kept.right.saturating_add(1);
@@ -120,7 +120,7 @@ fn rebuild<L: Layout + Copy + Drop>(
 ) -> io::Result<()> {
     let layout = volume.layout();
     for row in 0..layout.rows() {
-        let Some(lost) = layout.owner(disk, row) else {
+        let Some(lost) = layout.owner(Place { disk, row }) else {
             println!(rt; "  row {row}: nobody owns this place")?;
             continue;
         };

@@ -32,7 +32,7 @@ impl<L: Layout + Copy + Drop> Volume<L> {
 
     // The unit of a member, or none out of range.
     pub fn read(&self, member: Member) -> Option<&Unit> {
-        let place = self.layout.place(member.stripe, member.index)?;
+        let place = self.layout.place(member)?;
         self.units.get(self.number(place))
     }
 
@@ -44,7 +44,7 @@ impl<L: Layout + Copy + Drop> Volume<L> {
     }
 
     pub fn write(&mut self, member: Member, unit: Unit) {
-        if let Some(place) = self.layout.place(member.stripe, member.index) {
+        if let Some(place) = self.layout.place(member) {
             self.put(place, unit);
         }
     }

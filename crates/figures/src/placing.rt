@@ -57,12 +57,14 @@ pub fn round_trips(rt: &impl Print) -> anyhow::Result<()> {
 
 fn round_trip<L: Named>(rt: &impl Print, layout: &L) -> io::Result<()> {
     let members = Tally::of(layout.stripes(), layout.width(), |stripe, index| {
-        layout.place(stripe, index).map(|place| layout.owner(place.disk, place.row)
-            == Some(Member { stripe, index }))
+        let member = Member { stripe, index };
+        let place = layout.place(member)?;
+        Some(layout.owner(place) == Some(member))
     });
     let places = Tally::of(layout.disks(), layout.rows(), |disk, row| {
-        layout.owner(disk, row).map(|member| layout.place(member.stripe, member.index)
-            == Some(Place { disk, row }))
+        let place = Place { disk, row };
+        let member = layout.owner(place)?;
+        Some(layout.place(member) == Some(place))
     });
     println!(rt;
         "{} of {} disks and {} rows",
@@ -189,18 +191,20 @@ pub fn out_of_range(rt: &impl Print) -> anyhow::Result<()> {
 fn strays<L: Named>(rt: &impl Print, layout: &L) -> io::Result<()> {
     let far = usize::MAX;
     let places = [
-        layout.place(layout.stripes(), 0),
-        layout.place(0, layout.width()),
-        layout.place(far, 0),
-        layout.place(0, far),
-        layout.place(far, far),
-    ];
+        (layout.stripes(), 0),
+        (0, layout.width()),
+        (far, 0),
+        (0, far),
+        (far, far),
+    ]
+    .map(|(stripe, index)| layout.place(Member { stripe, index }));
     let owners = [
-        layout.owner(layout.disks(), 0),
-        layout.owner(0, layout.rows()),
-        layout.owner(far, 0),
-        layout.owner(0, far),
-        layout.owner(far, far),
-    ];
+        (layout.disks(), 0),
+        (0, layout.rows()),
+        (far, 0),
+        (0, far),
+        (far, far),
+    ]
+    .map(|(disk, row)| layout.owner(Place { disk, row }));
     println!(rt; "  {}: places {places:?}, owners {owners:?}", L::NAME)
 }

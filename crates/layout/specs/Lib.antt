@@ -2,7 +2,6 @@ pub mod Shape
 pub mod Tables
 pub mod Examples
 pub mod Chains
-pub mod Options
 pub mod Rings
 pub mod Pairs
 pub mod Raid

@@ -1,33 +1,24 @@
--- Disks on a ring of n, and remainders by n of numbers below n + n. Assumes nothing.
-use Rattle.std.specs.Prelude.{◌≡◌, ℕ, ◌+◌, ◌-◌, ◌%◌, ◌<◌, ◌≤◌, ◌⊎◌}
-use Rattle.std.proofs.Common.{◌∙◌, inl, inr, mod-eq_of_lt, arith}
+-- Remainders by n of numbers below n + n, and what an owner in a table says. Assumes nothing.
+use Rattle.std.specs.Prelude.{◌≡◌, ℕ, ◌+◌, ◌-◌, ◌%◌, ◌<◌, ◌≤◌, ◌⊎◌, Some, None, if◌then◌else◌}
+use Rattle.std.proofs.Common.{refl, ◌∙◌, inl, inr, mod-eq_of_lt, arith}
 use Rattle.std.proofs.Math.Nat.{mod-eq-sub-mod}
-use Rattle.std.proofs.lemmas.Bool.{cases_lt}
+use Rattle.std.proofs.lemmas.Bool.{and_parts, cases_lt}
+use Rattle.std.proofs.lemmas.Bool.Decides.{nat_tests}
+use Rattle.std.proofs.lemmas.Option.{cond_some}
+use Rattle.units.specs.declared.place.Place.{Place}
+use Rattle.layout.specs.declared.Member.{Member}
+use Rattle.layout.specs.Tables.{within}
 
--- x lies in the first round of n numbers, or in the second
-pub data Round (x n : ℕ) : Type 0 where
-  first : x < n → x % n ≡ x → Round x n
-  second : n ≤ x → x % n ≡ x - n → Round x n
+-- x lies in the first round of n numbers, or in the second; x % n ≡ x % n shows `grind` the remainder to match
+pub round : (x n : ℕ) → x < n + n → (x % n ≡ x % n) × (((x < n) × (x % n ≡ x)) ⊎ ((n ≤ x) × (x % n ≡ x - n)))
+round x n h = (
+  refl,
+  elim (cases_lt x n) [
+    | inl l ↦ inl (l, mod-eq_of_lt l)
+    | inr g ↦ let over : x - n < n = omega arith in inr (g, mod-eq-sub-mod g ∙ mod-eq_of_lt over)
+  ],
+)
 
-pub round : (x n : ℕ) → x < n + n → Round x n
-round x n h = elim (cases_lt x n) [
-  | inl l ↦ first l (mod-eq_of_lt l)
-  | inr g ↦ let over : x - n < n = omega arith in second g (mod-eq-sub-mod g ∙ mod-eq_of_lt over)
-]
-
--- d is j turned back by m on a ring of n: d + m comes to j, or to j after one round
-abbrev pub Turned : ℕ → ℕ → ℕ → ℕ → Type 0
-Turned n m j d = ((d < n) × (j < n)) × ((d + m ≡ j) ⊎ (d + m ≡ j + n))
-
--- either of the two tells the other
-pub same_disk : (n m j d e : ℕ) → Turned n m j d → Turned n m j e → d ≡ e
-same_disk n m j d e (a, inl x) (b, inl y) = omega arith
-same_disk n m j d e (a, inl x) (b, inr y) = absurd (omega arith)
-same_disk n m j d e (a, inr x) (b, inl y) = absurd (omega arith)
-same_disk n m j d e (a, inr x) (b, inr y) = omega arith
-
-pub same_member : (n m i j d : ℕ) → Turned n m i d → Turned n m j d → i ≡ j
-same_member n m i j d (a, inl x) (b, inl y) = omega arith
-same_member n m i j d (a, inl x) (b, inr y) = absurd (omega arith)
-same_member n m i j d (a, inr x) (b, inl y) = absurd (omega arith)
-same_member n m i j d (a, inr x) (b, inr y) = omega arith
+-- an owner that a table answers is the table's, at a place within its disks and rows
+pub owner_within : (n R : ℕ) (q : Place) (x m : Member) → (if within n R q then Some x else None) ≡ Some m → ((q.disk < n) × (q.row < R)) × (x ≡ m)
+owner_within n R q x m e = grind (arith, cond_some, and_parts, nat_tests)

@@ -1,5 +1,5 @@
 -- What a layout says: its sizes, where each member of each stripe stands, and who owns each place. Assumes nothing.
-use Rattle.std.specs.Prelude.{◌≡◌, ℕ, ◌-◌, ◌*◌, ◌/◌, ◌%◌, ◌<◌, ◌≤◌, Bool, true, false, cond, ◌&&◌, Some, None, Ok, Err, Option, Result, nat_lt}
+use Rattle.std.specs.Prelude.{◌≡◌, ℕ, ◌-◌, ◌*◌, ◌/◌, ◌%◌, ◌<◌, ◌≤◌, Bool, true, false, ◌&&◌, if◌then◌else◌, Some, None, Ok, Err, Option, Result, nat_lt}
 use Rattle.denial.specs.declared.Denial.{Denial}
 use Rattle.denial.specs.declared.Denial.TheVariants.{BadLayout}
 use Rattle.units.specs.declared.place.Place.{Place}
@@ -11,8 +11,8 @@ pub record Shape : Type 0 where
   pub rows : ℕ
   pub stripes : ℕ
   pub width : ℕ
-  pub place : ℕ → ℕ → Place
-  pub owner : ℕ → ℕ → Option Member
+  pub place : Member → Place
+  pub owner : Place → Option Member
 
 abbrev pub place_at : ℕ → ℕ → Place
 place_at d r = record { disk = d; row = r }
@@ -20,11 +20,9 @@ place_at d r = record { disk = d; row = r }
 abbrev pub member_at : ℕ → ℕ → Member
 member_at s j = record { stripe = s; index = j }
 
--- member w is one of the layout's, and stands on disk d in row r
-pub record Stands (p : Shape) (w : Member) (d r : ℕ) : Type 0 where
-  pub stripe_below : w.stripe < p.stripes
-  pub index_below : w.index < p.width
-  pub there : p.place w.stripe w.index ≡ place_at d r
+-- the member is one of the layout's
+abbrev pub IsMember : Shape → Member → Type 0
+IsMember p m = (m.stripe < p.stripes) × (m.index < p.width)
 
 -- the placing law
 pub record PlacingLaw (p : Shape) : Type 0 where
@@ -34,22 +32,17 @@ pub record PlacingLaw (p : Shape) : Type 0 where
   pub wide : 2 ≤ p.width
   pub narrow : p.width ≤ 8
   -- members stand on the layout's disks and rows
-  pub disk_below : (s j : ℕ) → s < p.stripes → j < p.width → (p.place s j).disk < p.disks
-  pub row_below : (s j : ℕ) → s < p.stripes → j < p.width → (p.place s j).row < p.rows
+  pub disk_below : (m : Member) → IsMember p m → (p.place m).disk < p.disks
+  pub row_below : (m : Member) → IsMember p m → (p.place m).row < p.rows
   -- a stripe's members stand on different disks
-  pub apart : (s i j : ℕ) → s < p.stripes → i < p.width → j < p.width → (p.place s i).disk ≡ (p.place s j).disk → i ≡ j
+  pub apart : (m w : Member) → IsMember p m → IsMember p w → m.stripe ≡ w.stripe → (p.place m).disk ≡ (p.place w).disk → m ≡ w
   -- a member's place is owned by it, and an owner stands at the place that it owns
-  pub owned : (s j : ℕ) → s < p.stripes → j < p.width → p.owner (p.place s j).disk (p.place s j).row ≡ Some (member_at s j)
-  pub placed : (d r : ℕ) (w : Member) → p.owner d r ≡ Some w → Stands p w d r
+  pub owned : (m : Member) → IsMember p m → p.owner (p.place m) ≡ Some m
+  pub placed : (q : Place) (m : Member) → p.owner q ≡ Some m → IsMember p m × (p.place m ≡ q)
 
--- where member j of stripe s stands, or none out of range
-abbrev pub found : Shape → ℕ → ℕ → Option Place
-found p s j = cond (nat_lt s p.stripes && nat_lt j p.width) (Some (p.place s j)) None
-
--- a place that is found is on a disk below 16, so that callers may index a table of disks by it
-abbrev pub Small : Option Place → Type 0
-Small None = Unit {0}
-Small (Some q) = q.disk < 16
+-- where the member stands, or none out of range
+abbrev pub found : Shape → Member → Option Place
+found p m = if nat_lt m.stripe p.stripes && nat_lt m.index p.width then Some (p.place m) else None
 
 -- how many data members a stripe has: all but the check
 abbrev pub data_width : Shape → ℕ
@@ -61,24 +54,15 @@ data_units p = p.stripes * data_width p
 
 -- data unit u is member u mod k of stripe u div k, for k data members in a stripe
 abbrev pub unit_member : Shape → ℕ → Option Member
-unit_member p u = cond (nat_lt u (data_units p)) (Some (member_at (u / data_width p) (u % data_width p))) None
+unit_member p u = if nat_lt u (data_units p) then Some (member_at (u / data_width p) (u % data_width p)) else None
 
--- member j of stripe s is one of the layout's data members
-abbrev pub DataMember : Shape → ℕ → ℕ → Type 0
-DataMember p s j = (s < p.stripes) × (j < data_width p)
+-- the member is one of the layout's data members
+abbrev pub IsDataMember : Shape → Member → Type 0
+IsDataMember p m = (m.stripe < p.stripes) × (m.index < data_width p)
 
--- a member that is found is a data member
-abbrev pub FoundData : Shape → Option Member → Type 0
-FoundData p None = Unit {0}
-FoundData p (Some w) = DataMember p w.stripe w.index
-
--- each data unit is a data member
-abbrev pub UnitsAreMembers : Shape → Type 0
-UnitsAreMembers p = (u : ℕ) → u < data_units p → DataMember p (u / data_width p) (u % data_width p)
-
--- member j of stripe s is one of the layout's, and stands on disk d
-abbrev pub OnDisk : Shape → ℕ → ℕ → ℕ → Type 0
-OnDisk p s j d = ((s < p.stripes) × (j < p.width)) × ((p.place s j).disk ≡ d)
+-- the member is one of the layout's, and stands on disk d
+abbrev pub OnDisk : Shape → Member → ℕ → Type 0
+OnDisk p m d = IsMember p m × ((p.place m).disk ≡ d)
 
 -- what a constructor answers: a layout where the table has these numbers, else the denial of a bad layout
 abbrev pub Made : {L : Type 0} → Bool → (L → Type 0) → Result L Denial → Type 0

@@ -1,13 +1,14 @@
 // Layouts: on which disk and in which row each member of each stripe stands.
 #![tactic(auto)]
 
-ghost use Rattle.std.specs.Prelude.{◌≡◌};
+ghost use Rattle.std.specs.Prelude.{◌≡◌, ◌<◌, IfSome};
 ghost use Rattle.layout.specs.Examples.{PlacingExamples};
-ghost use Rattle.layout.specs.Shape.{data_units, found, PlacingLaw, Shape, Small};
+ghost use Rattle.layout.specs.Shape.{data_units, found, PlacingLaw, Shape};
 
 pub use units::place::Place;
 
 pub mod chain;
+mod grid;
 pub mod lookup;
 pub mod pair;
 pub mod raid5;
@@ -38,17 +39,21 @@ pub trait Layout {
         ensures { result ≡ (shape self.now).width };
 
     // How many data units the stripes hold in all.
+    #[tactic(auto, using(crate::proofs::Spots::few_units))]
     fn data_units(&self) -> usize
-        ensures { result ≡ data_units (shape self.now) };
+        ensures { result ≡ data_units (shape self.now) }
+    {
+        self.stripes() * (self.width() - 1)
+    }
 
     // Where the member stands, or none out of range.
-    fn place(&self, stripe: usize, index: usize) -> Option<Place>
-        ensures found { result ≡ found (shape self.now) stripe index }
-        ensures small { Small result };
+    fn place(&self, member: Member) -> Option<Place>
+        ensures found { result ≡ found (shape self.now) member }
+        ensures small { IfSome result (λ place. place.disk < 16) };
 
     // The member that stands there, or none out of range or where nobody owns the place.
-    fn owner(&self, disk: usize, row: usize) -> Option<Member>
-        ensures { result ≡ (shape self.now).owner disk row };
+    fn owner(&self, place: Place) -> Option<Member>
+        ensures { result ≡ (shape self.now).owner place };
 
     ghost placing: { (l : Self) → PlacingLaw (shape l) };
 }

@@ -4,73 +4,67 @@ ghost use Rattle.layout.specs.Shape.{Made};
 ghost use Rattle.layout.specs.Tables.{pair, pair_numbers};
 ghost use Rattle.layout.specs.Pairs.{pair_law};
 
+use super::grid::Grid;
 use super::{Layout, Member, Place};
 use denial::Denial;
 
 #[derive(Clone, Copy)]
 pub struct Pair {
-    disks: usize,
-    rows: usize,
-    ghost even: { disks % 2 ≡ 0 },
-    ghost some_disks: { 2 ≤ disks },
-    ghost few_disks: { disks ≤ 16 },
-    ghost some_rows: { 1 ≤ rows },
-    ghost few_rows: { rows ≤ 4096 },
+    grid: Grid<2, 16, 1>,
+    ghost even: { grid.disks % 2 ≡ 0 },
 }
 
 impl Pair {
     // An even number of disks from 2 to 16, and 1 to 4,096 rows.
     pub fn new(disks: usize, rows: usize) -> Result<Pair, Denial>
-        ensures { Made (pair_numbers disks rows) (λ l. (l.disks ≡ disks) × (l.rows ≡ rows)) result }
+        ensures { Made (pair_numbers disks rows) (λ l. (l.grid.disks ≡ disks) × (l.grid.rows ≡ rows)) result }
     {
-        if disks < 2 || disks > 16 || disks % 2 != 0 || rows < 1 || rows > 4096 {
+        if disks % 2 != 0 {
             return Err(Denial::BadLayout);
         }
-        Ok(Pair { disks, rows })
+        Ok(Pair {
+            grid: Grid::new(disks, rows)?,
+        })
     }
 }
 
 impl Layout for Pair {
-    ghost shape = { λ l. pair l.disks l.rows };
+    ghost shape = { λ l. pair l.grid.disks l.grid.rows };
 
-    ghost placing = { λ l. pair_law l.disks l.rows l.even l.some_disks l.few_disks l.some_rows l.few_rows };
+    ghost placing = { λ l. pair_law l.grid.disks l.grid.rows l.even l.grid.some_disks l.grid.few_disks l.grid.some_rows l.grid.few_rows };
 
     fn disks(&self) -> usize {
-        self.disks
+        self.grid.disks
     }
 
     fn rows(&self) -> usize {
-        self.rows
+        self.grid.rows
     }
 
     fn stripes(&self) -> usize {
-        self.disks / 2 * self.rows
+        self.grid.disks / 2 * self.grid.rows
     }
 
     fn width(&self) -> usize {
         2
     }
 
-    fn data_units(&self) -> usize {
-        self.stripes()
-    }
-
-    fn place(&self, stripe: usize, index: usize) -> Option<Place> {
+    fn place(&self, Member { stripe, index }: Member) -> Option<Place> {
         if stripe >= self.stripes() || index >= self.width() {
             return None;
         }
-        let pairs = self.disks / 2;
+        let pairs = self.grid.disks / 2;
         Some(Place {
             disk: 2 * (stripe % pairs) + index,
             row: stripe / pairs,
         })
     }
 
-    fn owner(&self, disk: usize, row: usize) -> Option<Member> {
-        if disk >= self.disks || row >= self.rows {
+    fn owner(&self, Place { disk, row }: Place) -> Option<Member> {
+        if disk >= self.grid.disks || row >= self.grid.rows {
             return None;
         }
-        let pairs = self.disks / 2;
+        let pairs = self.grid.disks / 2;
         Some(Member {
             stripe: row * pairs + disk / 2,
             index: disk % 2,

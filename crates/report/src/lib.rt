@@ -1,7 +1,7 @@
 // A layout as a table of who stands where, for people to read.
 #![tactic(auto)]
 
-use layout::{Layout, Member};
+use layout::{Layout, Member, Place};
 use std::fmt;
 
 // A member of stripes of `width` members by a short name: D and the number of its data unit, or C and its stripe for a check.
@@ -51,7 +51,7 @@ impl<L: Layout> fmt::Display for Table<'_, L> {
         for row in 0..rows {
             write!(f, "\n {row:>4}")?;
             for disk in 0..disks {
-                match self.layout.owner(disk, row) {
+                match self.layout.owner(Place { disk, row }) {
                     Some(member) => write!(f, "{:>8}", Label { member, width })?,
                     None => write!(f, "{:>8}", '-')?,
                 }

@@ -1,14 +1,7 @@
-use Rattle.std.proofs.Common.{ℕ, Decides, rules}
-use Rattle.units.specs.Sets.{has}
-use Rattle.layout.specs.Shape.{OnDisk}
+use Rattle.std.proofs.Common.{rules}
 use Rattle.layout.proofs.Placing.{one_on_disk}
 use Rattle.layout.proofs.lookup.members_on.Goals as goal
 
-pub returns : goal.returns
-returns g c =
-    let p = g.L.Layout.shape c.args.layout.now in
-    let each : (j : ℕ) → Decides (has c.loop-index.members j) (OnDisk p c.args.stripe j c.args.disk) = search rules in
-    record {
-      each = each;
-      one = one_on_disk p (g.met.L.Layout.placing c.args.layout.now) c.args.stripe c.args.disk c.loop-index.members each;
-    }
+pub returns-clause-one : goal.returns-clause-one
+returns-clause-one g c =
+    one_on_disk _ (g.met.L.Layout.placing c.args.layout.now) c.args.stripe c.args.disk c.loop-index.members (search rules)
