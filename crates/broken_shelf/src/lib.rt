@@ -3,12 +3,13 @@
 
 ghost use Rattle.std.specs.Prelude.{◌≡◌, ℕ, ◌&&◌, ◌||◌, length, Err, ◌==◌, nat_lt};
 ghost use Rattle.broken_shelf.specs.Broken.{AlwaysFaults, AlwaysFaultsRenewal, broken, fault};
+ghost use Rattle.shelf.specs.Meaning.{Marked, out_of_range, Within};
 ghost use Rattle.units.specs.Sets.{has};
 ghost use Rattle.std.proofs.Common.{rules};
 
 use denial::fault::ShelfFault;
 use shelf::extent::Extent;
-use shelf::{MOST_DISKS, Shelf};
+use shelf::{MOST_DISKS, Place, Shelf};
 use units::set::Set;
 
 // 32 disks of these rows. Every read, write and renewal in range faults with this code and marks its disk.
@@ -44,45 +45,53 @@ impl BrokenShelf {
     }
 
     // Marks the disk, and gives its fault.
-    fn fail(&mut self, disk: usize, row: usize) -> ShelfFault
-        ensures answer { Err result ≡ fault self.old disk row }
-        ensures marks { (d : ℕ) → has self.new.marks d ≡ (has self.old.marks d || (d == disk && nat_lt disk 32)) }
+    fn fail(&mut self, place: Place) -> ShelfFault
+        ensures answer { Err result ≡ fault self.old place.disk place.row }
+        ensures marks { (d : ℕ) → has self.new.marks d ≡ (has self.old.marks d || (d == place.disk && nat_lt place.disk 32)) }
         ensures rows { self.new.rows ≡ self.old.rows }
         ensures code { self.new.code ≡ self.old.code }
     {
-        self.marks.insert(disk);
+        self.marks.insert(place.disk);
         ShelfFault {
-            code: self.code.max(2).min(8),
-            disk,
-            row,
+            code: self.code.clamp(2, 8),
+            disk: place.disk,
+            row: place.row,
         }
+    }
+
+    // What a read and a write of `len` bytes come to: in range a fault.
+    fn access(&mut self, place: Place, len: usize) -> Result<(), ShelfFault>
+        ensures faults { AlwaysFaults self.old place.disk place.row len result self.new }
+        ensures inside { Within 32 self.old.rows place.disk place.row len → Marked (broken self.old) place.disk (broken self.new) }
+        ensures outside { (Within 32 self.old.rows place.disk place.row len → ⊥) → (result ≡ out_of_range place.disk place.row) × (self.new ≡ self.old) }
+    {
+        self.extent().check(place, len)?;
+        Err(self.fail(place))
     }
 }
 
 impl Shelf for BrokenShelf {
     ghost meaning = { broken };
 
-    ghost reading = { λ s d r before a _ t. AlwaysFaults s d r (length before) a t };
+    ghost reading = { λ s p before a _ t. AlwaysFaults s p.disk p.row (length before) a t };
 
-    ghost writing = { λ s d r bytes a t. AlwaysFaults s d r (length bytes) a t };
+    ghost writing = { λ s p bytes a t. AlwaysFaults s p.disk p.row (length bytes) a t };
 
     ghost renewing = { AlwaysFaultsRenewal };
 
     ghost lawful = { Prim.search rules };
 
-    fn read(&mut self, disk: usize, row: usize, buffer: &mut [u8]) -> Result<(), ShelfFault> {
-        self.extent().check(disk, row, buffer.len())?;
-        Err(self.fail(disk, row))
+    fn read(&mut self, place: Place, buffer: &mut [u8]) -> Result<(), ShelfFault> {
+        self.access(place, buffer.len())
     }
 
-    fn write(&mut self, disk: usize, row: usize, bytes: &[u8]) -> Result<(), ShelfFault> {
-        self.extent().check(disk, row, bytes.len())?;
-        Err(self.fail(disk, row))
+    fn write(&mut self, place: Place, bytes: &[u8]) -> Result<(), ShelfFault> {
+        self.access(place, bytes.len())
     }
 
     fn renew(&mut self, disk: usize) -> Result<(), ShelfFault> {
         self.extent().check_disk(disk)?;
-        Err(self.fail(disk, 0))
+        Err(self.fail(Place { disk, row: 0 }))
     }
 
     fn disks(&self) -> usize {

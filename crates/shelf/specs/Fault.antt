@@ -1,11 +1,17 @@
 -- The fault shelf: a shelf over another, whose accesses fault by a script. Assumes nothing.
-use Rattle.std.specs.Prelude.{◌≡◌, ℕ, true, false, ◌||◌, List, length, Err, slice_index_or, slice_set}
+use Rattle.std.specs.Prelude.{◌≡◌, ℕ, Bool, not, ◌&&◌, ◌||◌, List, length, Err, ◌==◌}
 use Rattle.std.specs.Option as options
 use Rattle.std.specs.Result as results
 use Rattle.shelf.specs.declared.fault.FaultShelf.{FaultShelf}
 use Rattle.shelf.specs.declared.script.Cause.{Cause}
 use Rattle.shelf.specs.Meaning.{Answer, Meaning, Reads, Renews, Within, Writes}
+use Rattle.units.specs.Sets.{has}
+use Rattle.units.specs.declared.place.Place.{Place}
 use Rattle.shelf.specs.Script.{BringsBack, code, Counts, due}
+
+-- the marks of a shelf and those of a set besides
+abbrev pub with_marks : ℕ → (ℕ → Bool) → ℕ → Bool
+with_marks marks mark d = has marks d || mark d
 
 module _ {S : Type 0} (meant : S → Meaning) where
   -- what the shelf means: as the one below, but a mark here shows too
@@ -14,7 +20,7 @@ module _ {S : Type 0} (meant : S → Meaning) where
     disks = (meant s.below).disks;
     rows = (meant s.below).rows;
     bytes = (meant s.below).bytes;
-    mark = λ d. slice_index_or s.marks d false || (meant s.below).mark d;
+    mark = with_marks s.marks (meant s.below).mark;
   }
 
   -- the access is in range of the shelf
@@ -25,7 +31,7 @@ module _ {S : Type 0} (meant : S → Meaning) where
   pub record FaultsHere (s : FaultShelf S) (d r : ℕ) (answer : Answer) (t : FaultShelf S) (cause : Cause) : Type 0 where
     pub told : answer ≡ Err (record { code = code cause; disk = d; row = r })
     pub below : t.below ≡ s.below
-    pub marks : t.marks ≡ slice_set s.marks d true
+    pub marks : (e : ℕ) → has t.marks e ≡ (has s.marks e || e == d)
 
   -- an access by the script: out of range nothing changes; in range it is counted, and faults where a fault is due, else passes down
   pub record ByScript (s : FaultShelf S) (d r n : ℕ) (answer : Answer) (t : FaultShelf S) (Passed : Type 0) : Type 0 where
@@ -37,18 +43,18 @@ module _ {S : Type 0} (meant : S → Meaning) where
   pub record PassesRenewal (s : FaultShelf S) (d : ℕ) (answer : Answer) (t : FaultShelf S) (Passed : Type 0) : Type 0 where
     pub passed : Passed
     pub served : results.MatchResult answer
-        (λ _. BringsBack s.script d t.script × (t.marks ≡ slice_set s.marks d false))
+        (λ _. BringsBack s.script d t.script × ((e : ℕ) → has t.marks e ≡ (has s.marks e && not (e == d))))
         (λ _. (t.script ≡ s.script) × (t.marks ≡ s.marks))
 
   -- what the fault shelf says of its calls: what passes down is one call below, which goes by its relation and by what that shelf says besides
-  abbrev pub Reading : (S → ℕ → ℕ → List ℕ → Answer → List ℕ → S → Type 0) → FaultShelf S → ℕ → ℕ → List ℕ → Answer → List ℕ → FaultShelf S → Type 0
-  Reading besides s d r before a after t =
-      ByScript s d r (length before) a t
-      (Reads (meant s.below) d r before a after (meant t.below) × besides s.below d r before a after t.below)
+  abbrev pub Reading : (S → Place → List ℕ → Answer → List ℕ → S → Type 0) → FaultShelf S → Place → List ℕ → Answer → List ℕ → FaultShelf S → Type 0
+  Reading besides s p before a after t =
+      ByScript s p.disk p.row (length before) a t
+      (Reads (meant s.below) p.disk p.row before a after (meant t.below) × besides s.below p before a after t.below)
 
-  abbrev pub Writing : (S → ℕ → ℕ → List ℕ → Answer → S → Type 0) → FaultShelf S → ℕ → ℕ → List ℕ → Answer → FaultShelf S → Type 0
-  Writing besides s d r bs a t =
-      ByScript s d r (length bs) a t (Writes (meant s.below) d r bs a (meant t.below) × besides s.below d r bs a t.below)
+  abbrev pub Writing : (S → Place → List ℕ → Answer → S → Type 0) → FaultShelf S → Place → List ℕ → Answer → FaultShelf S → Type 0
+  Writing besides s p bs a t =
+      ByScript s p.disk p.row (length bs) a t (Writes (meant s.below) p.disk p.row bs a (meant t.below) × besides s.below p bs a t.below)
 
   abbrev pub Renewing : (S → ℕ → Answer → S → Type 0) → FaultShelf S → ℕ → Answer → FaultShelf S → Type 0
   Renewing besides s d a t = PassesRenewal s d a t (Renews (meant s.below) d a (meant t.below) × besides s.below d a t.below)

@@ -1,5 +1,5 @@
 -- A script over whole histories: which fault an access has, told by what happened before. Assumes nothing.
-use Rattle.std.specs.Prelude.{◌≡◌, ℕ, suc, ◌+◌, ◌<◌, min, cond, ◌⊎◌, List, [], ◌∷◌, Some, ◌==◌, ◌≢◌}
+use Rattle.std.specs.Prelude.{◌≡◌, ℕ, suc, ◌+◌, ◌<◌, min, if◌then◌else◌, ◌⊎◌, List, [], ◌∷◌, Some, ◌==◌, ◌≢◌}
 use Rattle.shelf.specs.declared.script.Cause.TheVariants.{Gone}
 use Rattle.shelf.specs.declared.script.FaultLine.{FaultLine}
 use Rattle.shelf.specs.declared.script.FaultScript.{FaultScript}
@@ -23,7 +23,7 @@ Becomes s (e ∷ es) t = (u : FaultScript) × (Becomes s es u × Happens u e t)
 -- how often a disk was read or written
 abbrev pub accesses : ℕ → List Event → ℕ
 accesses d [] = 0
-accesses d (access e ∷ es) = cond (d == e) (suc (accesses d es)) (accesses d es)
+accesses d (access e ∷ es) = if d == e then suc (accesses d es) else accesses d es
 accesses d (renewal e ∷ es) = accesses d es
 
 -- the number of the next access of a disk; numbers stop at 4,294,967,295

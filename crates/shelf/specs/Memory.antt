@@ -2,6 +2,7 @@
 use Rattle.std.specs.Prelude.{◌≡◌, ℕ, ◌+◌, ◌*◌, ◌<◌, Bool, false, cond, ◌&&◌, List, [], ◌++◌, length, take, drop, replicate, Ok, vec_items, ◌==◌, nat_le, nat_lt}
 use Rattle.shelf.specs.declared.memory.MemoryShelf.{MemoryShelf}
 use Rattle.shelf.specs.Meaning.{Answer, Meaning, out_of_range}
+use Rattle.units.specs.declared.place.Place.{Place}
 use Rattle.units.specs.Units.{unit_at, with_unit, zeros}
 
 -- the bytes at a place: disk after disk, and of each disk row after row; none out of range
@@ -54,12 +55,12 @@ abbrev pub Zeroed : Meaning → ℕ → Type 0
 Zeroed m d = (r : ℕ) → r < m.rows → m.bytes d r ≡ zeros
 
 -- what the memory shelf says of its calls: each answer goes by the range alone; a read changes nothing
-abbrev pub Reading : MemoryShelf → ℕ → ℕ → List ℕ → Answer → List ℕ → MemoryShelf → Type 0
-Reading s d r before a after t = (a ≡ access_answer s d r (length before)) × (t ≡ s)
+abbrev pub Reading : MemoryShelf → Place → List ℕ → Answer → List ℕ → MemoryShelf → Type 0
+Reading s p before a after t = (a ≡ access_answer s p.disk p.row (length before)) × (t ≡ s)
 
 -- a write changes the place's unit
-abbrev pub Writing : MemoryShelf → ℕ → ℕ → List ℕ → Answer → MemoryShelf → Type 0
-Writing s d r bs a t = (a ≡ access_answer s d r (length bs)) × (vec_items t.bytes ≡ after_write s d r bs)
+abbrev pub Writing : MemoryShelf → Place → List ℕ → Answer → MemoryShelf → Type 0
+Writing s p bs a t = (a ≡ access_answer s p.disk p.row (length bs)) × (vec_items t.bytes ≡ after_write s p.disk p.row bs)
 
 -- a renewal leaves zeros
 abbrev pub Renewing : MemoryShelf → ℕ → Answer → MemoryShelf → Type 0

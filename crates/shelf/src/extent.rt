@@ -1,8 +1,9 @@
 // How far a shelf reaches, and the answer to what lies beyond.
-ghost use Rattle.std.specs.Prelude.{◌≡◌, ◌<◌, MatchResult};
+ghost use Rattle.std.specs.Prelude.{◌≡◌, ◌<◌, ◌↔◌, IsOk, Err, OnErr};
 ghost use Rattle.shelf.specs.Meaning.{out_of_range, Within};
 
 use denial::fault::ShelfFault;
+use units::place::Place;
 use units::unit::UNIT;
 
 // How many disks a shelf has, and how many rows each of them.
@@ -14,28 +15,37 @@ pub struct Extent {
 
 impl Extent {
     // Fault 1 unless the place is one of the shelf's and `len` bytes are a unit.
-    pub fn check(self, disk: usize, row: usize, len: usize) -> Result<(), ShelfFault>
-        ensures { MatchResult result (λ _. Within self.disks self.rows disk row len) (λ f. (Within self.disks self.rows disk row len → ⊥) × (result ≡ out_of_range disk row)) }
+    pub fn check(self, place: Place, len: usize) -> Result<(), ShelfFault>
+        ensures within { IsOk result ↔ Within self.disks self.rows place.disk place.row len }
+        ensures outside { OnErr result (result ≡ out_of_range place.disk place.row) }
     {
-        if disk < self.disks && row < self.rows && len == UNIT {
+        if place.disk < self.disks && place.row < self.rows && len == UNIT {
             Ok(())
         } else {
-            Err(ShelfFault { code: 1, disk, row })
+            Err(out_of_range(place))
         }
     }
 
     // Fault 1 unless the disk is one of the shelf's.
     pub fn check_disk(self, disk: usize) -> Result<(), ShelfFault>
-        ensures { MatchResult result (λ _. disk < self.disks) (λ f. (disk < self.disks → ⊥) × (result ≡ out_of_range disk 0)) }
+        ensures within { IsOk result ↔ (disk < self.disks) }
+        ensures outside { OnErr result (result ≡ out_of_range disk 0) }
     {
         if disk < self.disks {
             Ok(())
         } else {
-            Err(ShelfFault {
-                code: 1,
-                disk,
-                row: 0,
-            })
+            Err(out_of_range(Place { disk, row: 0 }))
         }
+    }
+}
+
+// The fault of a place that lies beyond.
+fn out_of_range(place: Place) -> ShelfFault
+    ensures { Err result ≡ out_of_range place.disk place.row }
+{
+    ShelfFault {
+        code: 1,
+        disk: place.disk,
+        row: place.row,
     }
 }

@@ -1,21 +1,24 @@
 // A shelf over another, whose reads and writes fault by a script.
-ghost use Rattle.std.specs.Prelude.{◌≡◌, ◌<◌, true, false, replicate, slice_set};
-ghost use Rattle.shelf.specs.Fault.{over, Reading, Renewing, Writing};
+ghost use Rattle.std.specs.Prelude.{◌≡◌, ℕ, Ok, OnOk, ◌&&◌, ◌||◌, ◌==◌, nat_lt};
+ghost use Rattle.shelf.specs.Fault.{ByScript, over, Reached, Reading, Renewing, Writing};
+ghost use Rattle.shelf.specs.Meaning.{out_of_range};
 ghost use Rattle.shelf.specs.Script.{Adds, code, count, Fresh};
+ghost use Rattle.units.specs.Sets.{has};
 ghost use Rattle.std.proofs.Common.{rules};
 
 use crate::extent::Extent;
 use crate::script::{Cause, FaultScript};
-use crate::{MOST_DISKS, Shelf};
+use crate::{Place, Shelf};
 use denial::Denial;
 use denial::fault::ShelfFault;
+use units::set::Set;
 
 // It counts the accesses in range, faults those that are due, and passes the others down. It keeps marks of its own.
 #[derive(Drop)]
 pub struct FaultShelf<S> {
     below: S,
     script: FaultScript,
-    marks: [bool; MOST_DISKS],
+    marks: Set,
 }
 
 impl<S: Shelf> FaultShelf<S> {
@@ -23,12 +26,12 @@ impl<S: Shelf> FaultShelf<S> {
     pub fn new(below: S) -> FaultShelf<S>
         ensures below { result.below ≡ below }
         ensures script { Fresh result.script }
-        ensures marks { result.marks ≡ replicate 32 false }
+        ensures marks { result.marks ≡ 0 }
     {
         FaultShelf {
             below,
             script: FaultScript::new(),
-            marks: [false; MOST_DISKS],
+            marks: Set::EMPTY,
         }
     }
 
@@ -67,18 +70,31 @@ impl<S: Shelf> FaultShelf<S> {
     }
 
     // Marks the disk here, and gives the fault of this cause.
-    fn fail(&mut self, disk: usize, row: usize, cause: Cause) -> ShelfFault
-        requires { disk < 32 }
-        ensures fault { result ≡ record { code = code cause; disk = disk; row = row } }
-        ensures marks { self.new.marks ≡ slice_set self.old.marks disk true }
+    fn fail(&mut self, place: Place, cause: Cause) -> ShelfFault
+        ensures fault { result ≡ record { code = code cause; disk = place.disk; row = place.row } }
+        ensures marks { (d : ℕ) → has self.new.marks d ≡ (has self.old.marks d || (d == place.disk && nat_lt place.disk 32)) }
         ensures below { self.new.below ≡ self.old.below }
         ensures script { self.new.script ≡ self.old.script }
     {
-        self.marks[disk] = true;
+        self.marks.insert(place.disk);
         ShelfFault {
             code: cause.code(),
-            disk,
-            row,
+            disk: place.disk,
+            row: place.row,
+        }
+    }
+
+    // What a read and a write of `len` bytes come to before the shelf below is asked: a fault where it is not to be asked.
+    fn admit(&mut self, place: Place, len: usize) -> Result<(), ShelfFault>
+        ensures script { ByScript S.Shelf.meaning self.old place.disk place.row len result self.new (result ≡ Ok tt) }
+        ensures outside { (Reached S.Shelf.meaning self.old place.disk place.row len → ⊥) → result ≡ out_of_range place.disk place.row }
+        ensures passes { OnOk result (self.new ≡ record self.old { script = self.new.script }) }
+        ensures below { self.new.below ≡ self.old.below }
+    {
+        self.extent().check(place, len)?;
+        match self.script.access(place.disk) {
+            Some(cause) => Err(self.fail(place, cause)),
+            None => Ok(()),
         }
     }
 }
@@ -94,26 +110,20 @@ impl<S: Shelf> Shelf for FaultShelf<S> {
 
     ghost lawful = { Prim.search rules };
 
-    fn read(&mut self, disk: usize, row: usize, buffer: &mut [u8]) -> Result<(), ShelfFault> {
-        self.extent().check(disk, row, buffer.len())?;
-        if let Some(cause) = self.script.access(disk) {
-            return Err(self.fail(disk, row, cause));
-        }
-        self.below.read(disk, row, buffer)
+    fn read(&mut self, place: Place, buffer: &mut [u8]) -> Result<(), ShelfFault> {
+        self.admit(place, buffer.len())?;
+        self.below.read(place, buffer)
     }
 
-    fn write(&mut self, disk: usize, row: usize, bytes: &[u8]) -> Result<(), ShelfFault> {
-        self.extent().check(disk, row, bytes.len())?;
-        if let Some(cause) = self.script.access(disk) {
-            return Err(self.fail(disk, row, cause));
-        }
-        self.below.write(disk, row, bytes)
+    fn write(&mut self, place: Place, bytes: &[u8]) -> Result<(), ShelfFault> {
+        self.admit(place, bytes.len())?;
+        self.below.write(place, bytes)
     }
 
     fn renew(&mut self, disk: usize) -> Result<(), ShelfFault> {
         self.below.renew(disk)?;
         self.script.renew(disk);
-        self.marks[disk] = false;
+        self.marks.remove(disk);
         Ok(())
     }
 
@@ -126,6 +136,6 @@ impl<S: Shelf> Shelf for FaultShelf<S> {
     }
 
     fn marked(&self, disk: usize) -> bool {
-        disk < self.below.disks() && (self.marks[disk] || self.below.marked(disk))
+        disk < self.below.disks() && (self.marks.contains(disk) || self.below.marked(disk))
     }
 }

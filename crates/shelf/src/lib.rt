@@ -5,8 +5,10 @@ ghost use Rattle.std.specs.Prelude.{◌≡◌, ℕ, List};
 ghost use Rattle.shelf.specs.Changes.{ExactChanges};
 ghost use Rattle.shelf.specs.Meaning.{Answer, Lawful, marked, Meaning, Reads, Renews, Writes};
 ghost use Rattle.shelf.specs.Runs.{Remembers};
+ghost use Rattle.units.specs.declared.place.Place.{Place};
 
 use denial::fault::ShelfFault;
+pub use units::place::Place;
 
 pub mod extent;
 pub mod fault;
@@ -22,21 +24,21 @@ pub trait Shelf {
     ghost meaning: { Self → Meaning };
 
     // What a supplier says of each call besides, over its own state before and after; nothing, unless it says so.
-    ghost reading: { Self → ℕ → ℕ → List ℕ → Answer → List ℕ → Self → Type 0 } = { λ _ _ _ _ _ _ _. Unit {0} };
+    ghost reading: { Self → Place → List ℕ → Answer → List ℕ → Self → Type 0 } = { λ _ _ _ _ _ _. Unit {0} };
 
-    ghost writing: { Self → ℕ → ℕ → List ℕ → Answer → Self → Type 0 } = { λ _ _ _ _ _ _. Unit {0} };
+    ghost writing: { Self → Place → List ℕ → Answer → Self → Type 0 } = { λ _ _ _ _ _. Unit {0} };
 
     ghost renewing: { Self → ℕ → Answer → Self → Type 0 } = { λ _ _ _ _. Unit {0} };
 
     // Fills the buffer from the place; on a fault it stays as it was.
-    fn read(&mut self, disk: usize, row: usize, buffer: &mut [u8]) -> Result<(), ShelfFault>
-        ensures reads { Reads (meaning self.old) disk row buffer.old result buffer.new (meaning self.new) }
-        ensures besides { reading self.old disk row buffer.old result buffer.new self.new };
+    fn read(&mut self, place: Place, buffer: &mut [u8]) -> Result<(), ShelfFault>
+        ensures reads { Reads (meaning self.old) place.disk place.row buffer.old result buffer.new (meaning self.new) }
+        ensures besides { reading self.old place buffer.old result buffer.new self.new };
 
     // Puts `bytes` at the place; a fault may leave any unit there.
-    fn write(&mut self, disk: usize, row: usize, bytes: &[u8]) -> Result<(), ShelfFault>
-        ensures writes { Writes (meaning self.old) disk row bytes.now result (meaning self.new) }
-        ensures besides { writing self.old disk row bytes.now result self.new };
+    fn write(&mut self, place: Place, bytes: &[u8]) -> Result<(), ShelfFault>
+        ensures writes { Writes (meaning self.old) place.disk place.row bytes.now result (meaning self.new) }
+        ensures besides { writing self.old place bytes.now result self.new };
 
     // Puts a fresh disk in the place of this one: its mark is cleared, and it may hold anything.
     fn renew(&mut self, disk: usize) -> Result<(), ShelfFault>

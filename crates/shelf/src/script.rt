@@ -1,38 +1,161 @@
 // A script of faults: which access of a disk is to fault, and why.
-ghost use Rattle.std.specs.Prelude.{◌≡◌, ◌≤◌, length};
+ghost use Rattle.std.specs.Prelude.{◌≡◌, ok_or};
+ghost use Rattle.denial.specs.declared.Denial.TheVariants.{BadFaultLine};
+ghost use Rattle.shelf.specs.History.{FaultsByHistory};
+ghost use Rattle.shelf.specs.Script.{Adds, BringsBack, cause_of, code, count, Counts, due, first_cause, Fresh, line_of, matches};
 
 use crate::MOST_DISKS;
-
-mod calls;
-
-pub use calls::faults_by_history;
+use arrayvec::ArrayVec;
+use denial::Denial;
+use units::set::Set;
 
 // How many lines a script has room for.
 pub const MOST_LINES: usize = 32;
 
+// The last access that a line may name.
+const LAST_ACCESS: u32 = 2_147_483_647;
+
 // Why an access faults: the medium cannot be read or written there, the disk is gone, or it answers too late.
-#[derive(Clone, Copy, PartialEq, Eq, Debug)]
+#[derive(Clone, Copy, PartialEq, Eq, Debug, Default)]
 pub enum Cause {
-    Medium,
-    Gone,
-    Late,
+    #[default]
+    Medium = 2,
+    Gone = 3,
+    Late = 4,
+}
+
+impl Cause {
+    // The code of a fault with this cause, which is also the cause's number in a line.
+    pub fn code(self) -> u8
+        ensures { result ≡ code self }
+    {
+        self as u8
+    }
+}
+
+// The cause with this number.
+impl TryFrom<usize> for Cause {
+    type Error = Denial;
+
+    ghost try_from_gives = { λ number r. r ≡ ok_or (cause_of number) BadFaultLine };
+
+    fn try_from(number: usize) -> Result<Cause, Denial> {
+        match number {
+            2 => Ok(Cause::Medium),
+            3 => Ok(Cause::Gone),
+            4 => Ok(Cause::Late),
+            _ => Err(Denial::BadFaultLine),
+        }
+    }
 }
 
 // The disk's `at`th read or write faults with this cause.
-#[derive(Clone, Copy)]
+#[derive(Clone, Copy, Default)]
 pub struct FaultLine {
     pub disk: usize,
     pub at: u32,
     pub cause: Cause,
 }
 
+impl FaultLine {
+    // The line of these numbers: a disk from 0 to 31, an access from 1 to 2,147,483,647, a cause from 2 to 4.
+    pub fn new(disk: usize, at: usize, cause: usize) -> Result<FaultLine, Denial>
+        ensures { result ≡ line_of disk at cause }
+    {
+        let at = u32::try_from(at).map_err(|_| Denial::BadFaultLine)?;
+        if disk >= MOST_DISKS || at < 1 || at > LAST_ACCESS {
+            return Err(Denial::BadFaultLine);
+        }
+        let cause = Cause::try_from(cause)?;
+        Ok(FaultLine { disk, at, cause })
+    }
+
+    // Whether the line is for this access of this disk.
+    fn matches(&self, disk: usize, access: u32) -> bool
+        ensures { result ≡ matches self.now disk access }
+    {
+        self.disk == disk && self.at == access
+    }
+}
+
 // Up to 32 lines, how many reads and writes each disk has had, and which disks are gone.
 #[derive(Drop)]
 pub struct FaultScript {
-    lines: [FaultLine; MOST_LINES],
-    used: usize,
+    lines: ArrayVec<FaultLine, MOST_LINES>,
     counts: [u32; MOST_DISKS],
-    gone: [bool; MOST_DISKS],
-    ghost few: { used ≤ 32 },
-    ghost room: { length lines ≡ 32 },
+    gone: Set,
 }
+
+// The cause of the first line for this access of this disk.
+fn first_cause(lines: &[FaultLine], disk: usize, access: u32) -> Option<Cause>
+    ensures { result ≡ first_cause lines.now disk access }
+{
+    lines
+        .iter()
+        .find(|line| line.matches(disk, access))
+        .map(|line| line.cause)
+}
+
+impl FaultScript {
+    // A script with no line, that has counted nothing.
+    pub fn new() -> FaultScript
+        ensures { Fresh result }
+    {
+        FaultScript {
+            lines: ArrayVec::new(),
+            counts: [0; MOST_DISKS],
+            gone: Set::EMPTY,
+        }
+    }
+
+    // One line more, behind the others.
+    pub fn add(&mut self, disk: usize, at: usize, cause: usize) -> Result<(), Denial>
+        ensures { Adds self.old disk at cause result self.new }
+    {
+        let line = FaultLine::new(disk, at, cause)?;
+        self.lines
+            .try_push(line)
+            .map_err(|_| Denial::TooManyFaultLines)
+    }
+
+    // How many reads and writes of the disk were counted.
+    pub fn count(&self, disk: usize) -> u32
+        ensures { result ≡ count self.now disk }
+    {
+        self.counts.get(disk).copied().unwrap_or(0)
+    }
+
+    // Counts a read or write of the disk, and tells the fault that is due.
+    pub fn access(&mut self, disk: usize) -> Option<Cause>
+        ensures answer { result ≡ due self.old disk }
+        ensures counts { Counts self.old disk self.new }
+    {
+        if disk >= MOST_DISKS {
+            return None;
+        }
+        let count = self.counts[disk].saturating_add(1);
+        self.counts[disk] = count;
+        let due = if self.gone.contains(disk) {
+            Some(Cause::Gone)
+        } else {
+            first_cause(&self.lines, disk, count)
+        };
+        if due == Some(Cause::Gone) {
+            self.gone.insert(disk);
+        }
+        due
+    }
+
+    // The disk is there again.
+    pub fn renew(&mut self, disk: usize)
+        ensures { BringsBack self.old disk self.new }
+    {
+        self.gone.remove(disk);
+    }
+}
+
+// The same told over whole histories of accesses and renewals: a disk that went away faults as gone until it is renewed,
+// and every other access as the first line with its number says.
+pub fn faults_by_history()
+    ensures { FaultsByHistory }
+{}

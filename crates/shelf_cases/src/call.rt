@@ -1,9 +1,8 @@
 // A call of a shelf as a value, so that a table of calls can be played and printed.
 use denial::fault::ShelfFault;
-use shelf::{MOST_DISKS, Shelf};
+use shelf::{MOST_DISKS, Place, Shelf};
 use std::alloc::Global;
 use std::fmt;
-use units::place::Place;
 use units::unit::UNIT;
 
 #[derive(Clone, Copy)]
@@ -40,7 +39,7 @@ impl Call {
         match self {
             Call::Read { place, len } => read_first(shelf, place, len),
             Call::Write { place, len, fill } => {
-                shelf.write(place.disk, place.row, &[fill; LONGEST][..len.min(LONGEST)])?;
+                shelf.write(place, &[fill; LONGEST][..len.min(LONGEST)])?;
                 Ok(None)
             }
             Call::Renew { disk } => {
@@ -114,7 +113,7 @@ const LONGEST: usize = 600;
 fn read_first<S: Shelf>(shelf: &mut S, place: Place, len: usize) -> Result<Option<u8>, Refusal> {
     let mut bytes = [BLANK; LONGEST];
     let buffer = &mut bytes[..len.min(LONGEST)];
-    match shelf.read(place.disk, place.row, buffer) {
+    match shelf.read(place, buffer) {
         Ok(()) => Ok(buffer.first().copied()),
         Err(fault) if buffer.iter().any(|&byte| byte != BLANK) => Err(Refusal::Spoilt(fault)),
         Err(fault) => Err(fault.into()),

@@ -1,9 +1,8 @@
 // A memory shelf: the order of its places, what a change leaves, and what lies out of range.
 use crate::call::{Call, play, read, renew, write};
-use shelf::Shelf;
 use shelf::memory::MemoryShelf;
+use shelf::{Place, Shelf};
 use std::alloc::{AllocError, Global};
-use units::place::Place;
 use units::unit::UNIT;
 
 // Bytes for this many units: each byte of unit i is 10 + i.

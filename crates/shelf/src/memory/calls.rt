@@ -10,6 +10,7 @@ use super::MemoryShelf;
 use crate::extent::Extent;
 use crate::{MOST_DISKS, Shelf};
 use denial::fault::ShelfFault;
+use units::place::Place;
 use units::unit::UNIT;
 
 // The most rows that a memory shelf takes.
@@ -39,23 +40,23 @@ impl MemoryShelf {
     }
 
     // Copies out the unit of a place in range.
-    fn get(&self, disk: usize, row: usize, unit: &mut [u8])
-        requires { Within self.now.disks self.now.rows disk row (length unit.old) }
-        ensures { unit.new ≡ (kept self.now).bytes disk row }
+    fn get(&self, place: Place, unit: &mut [u8])
+        requires { Within self.now.disks self.now.rows place.disk place.row (length unit.old) }
+        ensures { unit.new ≡ (kept self.now).bytes place.disk place.row }
     {
-        let at = (disk * self.rows + row) * UNIT;
+        let at = (place.disk * self.rows + place.row) * UNIT;
         unit.copy_from_slice(&self.bytes[at..at + UNIT]);
     }
 
     // Puts another unit at a place in range.
-    fn put(&mut self, disk: usize, row: usize, unit: &[u8])
-        requires { Within self.old.disks self.old.rows disk row (length unit.now) }
-        ensures stored { Stored (kept self.old) disk row unit.now (kept self.new) }
-        ensures bytes { self.new.bytes.items ≡ with_unit self.old.bytes.items (disk * self.old.rows + row) unit.now }
+    fn put(&mut self, place: Place, unit: &[u8])
+        requires { Within self.old.disks self.old.rows place.disk place.row (length unit.now) }
+        ensures stored { Stored (kept self.old) place.disk place.row unit.now (kept self.new) }
+        ensures bytes { self.new.bytes.items ≡ with_unit self.old.bytes.items (place.disk * self.old.rows + place.row) unit.now }
     {
-        let at = (disk * self.rows + row) * UNIT;
-        let place = &mut self.bytes[at..at + UNIT];
-        place.copy_from_slice(unit);
+        let at = (place.disk * self.rows + place.row) * UNIT;
+        let held = &mut self.bytes[at..at + UNIT];
+        held.copy_from_slice(unit);
     }
 
     // Puts zeros at every place of a disk in range.
@@ -94,15 +95,15 @@ impl Shelf for MemoryShelf {
         let whole : s.disks * s.rows * 512 ≤ length s.bytes.items = omega arith in
         record { few = s.few; units = place_unit s.disks s.rows s.bytes.items whole } };
 
-    fn read(&mut self, disk: usize, row: usize, buffer: &mut [u8]) -> Result<(), ShelfFault> {
-        self.extent().check(disk, row, buffer.len())?;
-        self.get(disk, row, buffer);
+    fn read(&mut self, place: Place, buffer: &mut [u8]) -> Result<(), ShelfFault> {
+        self.extent().check(place, buffer.len())?;
+        self.get(place, buffer);
         Ok(())
     }
 
-    fn write(&mut self, disk: usize, row: usize, bytes: &[u8]) -> Result<(), ShelfFault> {
-        self.extent().check(disk, row, bytes.len())?;
-        self.put(disk, row, bytes);
+    fn write(&mut self, place: Place, bytes: &[u8]) -> Result<(), ShelfFault> {
+        self.extent().check(place, bytes.len())?;
+        self.put(place, bytes);
         Ok(())
     }
 

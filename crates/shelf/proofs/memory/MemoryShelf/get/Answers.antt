@@ -6,4 +6,4 @@ use Rattle.shelf.proofs.memory.MemoryShelf.get.Goals as goal
 pub slice_bounds-copy_from_slice-end : goal.slice_bounds-copy_from_slice-end
 slice_bounds-copy_from_slice-end c =
     let s = c.args.self.now in
-    omega (arith, place_fits s.disks s.rows (vec_items s.bytes) (held s.bytes s.whole) c.args.disk c.args.row c.requires.disk c.requires.row)
+    omega (arith, place_fits s.disks s.rows (vec_items s.bytes) (held s.bytes s.whole) c.args.place.disk c.args.place.row c.requires.disk c.requires.row)
