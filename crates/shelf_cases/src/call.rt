@@ -5,6 +5,13 @@ use std::alloc::Global;
 use std::fmt;
 use units::unit::UNIT;
 
+// What the bytes of a buffer are before a read.
+const BLANK: u8 = 0xee;
+
+// The most bytes that a call takes.
+const LONGEST: usize = 600;
+
+// A read or a write of `len` bytes, which may be no unit, or a renewal.
 #[derive(Clone, Copy)]
 pub enum Call {
     Read { place: Place, len: usize },
@@ -29,6 +36,7 @@ pub fn write(disk: usize, row: usize, fill: u8) -> Call {
     }
 }
 
+// A renewal of a disk.
 pub fn renew(disk: usize) -> Call {
     Call::Renew { disk }
 }
@@ -103,11 +111,6 @@ impl fmt::Display for Outcome {
         }
     }
 }
-
-// What the buffer holds before a read, and how long the longest is.
-const BLANK: u8 = 0xee;
-
-const LONGEST: usize = 600;
 
 // Reads into a buffer of this length, and gives its first byte.
 fn read_first<S: Shelf>(shelf: &mut S, place: Place, len: usize) -> Result<Option<u8>, Refusal> {

@@ -51,7 +51,7 @@ pub fn room(rt: &impl Print) -> anyhow::Result<()> {
     let mut script = FaultScript::new();
     for line in 1..=34usize {
         let added = Added(script.add(5, line, 2));
-        if line < 2 || line > 31 {
+        if !(2..=31).contains(&line) {
             println!(rt; "  line {line}: {added}")?;
         }
     }
