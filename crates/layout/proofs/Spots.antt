@@ -1,11 +1,12 @@
 -- A layout has no more stripes than places, so that its data units can be counted. Assumes nothing.
 use Rattle.std.specs.Prelude.{◌≡◌, ℕ, zero, suc, ◌+◌, ◌-◌, ◌*◌, ◌^◌, ◌<◌, ◌≤◌, true, false, List, [], ◌∷◌, length}
 use Rattle.std.specs.List.{AllByRecursion, IsDistinct, list_any}
-use Rattle.std.proofs.Common.{eqb, refl, sym, ap, ap₂, subst, inl, inr, arith}
+use Rattle.std.proofs.Common.{eqb, refl, ap, arith}
 use Rattle.std.proofs.lemmas.Nat.{mul-add-lt, mul-le, same_from_place}
-use Rattle.std.proofs.lemmas.Bool.{eqb-true, false≢true, ne_eqb, or_cases}
+use Rattle.std.proofs.lemmas.Bool.Decides.{nat_tests}
+use Rattle.std.proofs.lemmas.Bool.{false≢true, ne_eqb, or_cases}
 use Rattle.std.proofs.lemmas.Map.Steps.{length-le_from_distinct_below}
-use Rattle.layout.specs.Shape.{Shape, PlacingLaw, IsMember, member_at, place_at}
+use Rattle.layout.specs.Shape.{Shape, PlacingLaw, IsMember, member_at}
 use Rattle.layout.proofs.Placing.{same_place}
 
 -- the place of member 0 of stripe s, as one number, and those of the stripes below n
@@ -25,17 +26,13 @@ module _ (p : Shape) (law : PlacingLaw p) where
 
   spots_below : (n q : ℕ) → n ≤ p.stripes → list_any (eqb q) (spots p n) ≡ true → q < p.disks * p.rows
   spots_below zero q h e = absurd (false≢true e)
-  spots_below (suc s) q h e = elim (or_cases (eqb q (spot p s)) (list_any (eqb q) (spots p s)) e) [
-    | inl is ↦ subst (λ q. q < p.disks * p.rows) (sym (eqb-true q (spot p s) is)) (spot_below s (omega arith))
-    | inr rest ↦ spots_below s q (omega arith) rest
-  ]
+  spots_below (suc s) q h e = let below = spot_below s (omega arith) in grind (arith, or_cases, nat_tests, spots_below s q (omega arith))
 
   spot_apart : (s t : ℕ) → s < t → t < p.stripes → spot p t ≡ spot p s → ⊥
   spot_apart s t l h e =
       let hs : s < p.stripes = omega arith in
       let same = same_from_place _ _ _ _ p.disks (law.disk_below _ (first t h)) (law.disk_below _ (first s hs)) e in
-      let one = same_place p law (member_at t 0) (member_at s 0) (first t h) (first s hs) (ap₂ place_at same.1 same.0) in
-      let less = ap (λ m. m.stripe) one in omega arith
+      let one = same_place p law (member_at t 0) (member_at s 0) (first t h) (first s hs) in grind arith
 
   spots_apart : (n t : ℕ) → n ≤ t → t < p.stripes → AllByRecursion (λ y. eqb (spot p t) y ≡ false) (spots p n)
   spots_apart zero t l h = tt

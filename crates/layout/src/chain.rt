@@ -16,7 +16,8 @@ pub struct Chain {
 impl Chain {
     // 2 to 16 disks and 2 to 4,096 rows.
     pub fn new(disks: usize, rows: usize) -> Result<Chain, Denial>
-        ensures { Made (chain_numbers disks rows) (λ l. (l.grid.disks ≡ disks) × (l.grid.rows ≡ rows)) result }
+        ensures { Made (chain_numbers disks rows)
+            (λ l. (l.grid.disks ≡ disks) × (l.grid.rows ≡ rows)) result }
     {
         Ok(Chain {
             grid: Grid::new(disks, rows)?,
@@ -27,7 +28,8 @@ impl Chain {
 impl Layout for Chain {
     ghost shape = { λ l. chain l.grid.disks l.grid.rows };
 
-    ghost placing = { λ l. chain_law l.grid.disks l.grid.rows l.grid.some_disks l.grid.few_disks l.grid.some_rows l.grid.few_rows };
+    ghost placing = { λ l. let g = l.grid in
+        chain_law g.disks g.rows g.some_disks g.few_disks g.some_rows g.few_rows };
 
     fn disks(&self) -> usize {
         self.grid.disks

@@ -25,6 +25,7 @@ pub struct Member {
 pub trait Layout {
     ghost shape: { Self → Shape };
 
+    // Each layout answers these two from its own grid: a body here would see no fields.
     fn disks(&self) -> usize
         ensures { result ≡ (shape self.now).disks };
 
@@ -58,7 +59,7 @@ pub trait Layout {
     ghost placing: { (l : Self) → PlacingLaw (shape l) };
 }
 
-// Worked examples of the three tables hold.
+// Worked examples of the three tables hold: the project asks for this theorem by a call, which does nothing.
 pub fn placing_examples()
     ensures { PlacingExamples }
 {}

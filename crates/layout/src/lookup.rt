@@ -7,7 +7,6 @@ use super::{Layout, Member};
 use units::set::Set;
 
 // The member that data unit `unit` is, or none past the last unit.
-#[tactic(auto, using(crate::proofs::Placing::units_are_members))]
 pub fn unit_member<L: Layout>(layout: &L, unit: usize) -> Option<Member>
     ensures found { result ≡ unit_member (L.shape layout.now) unit }
     ensures data { IfSome result (IsDataMember (L.shape layout.now)) }

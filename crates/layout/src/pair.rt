@@ -17,7 +17,8 @@ pub struct Pair {
 impl Pair {
     // An even number of disks from 2 to 16, and 1 to 4,096 rows.
     pub fn new(disks: usize, rows: usize) -> Result<Pair, Denial>
-        ensures { Made (pair_numbers disks rows) (λ l. (l.grid.disks ≡ disks) × (l.grid.rows ≡ rows)) result }
+        ensures { Made (pair_numbers disks rows)
+            (λ l. (l.grid.disks ≡ disks) × (l.grid.rows ≡ rows)) result }
     {
         if disks % 2 != 0 {
             return Err(Denial::BadLayout);
@@ -31,7 +32,8 @@ impl Pair {
 impl Layout for Pair {
     ghost shape = { λ l. pair l.grid.disks l.grid.rows };
 
-    ghost placing = { λ l. pair_law l.grid.disks l.grid.rows l.even l.grid.some_disks l.grid.few_disks l.grid.some_rows l.grid.few_rows };
+    ghost placing = { λ l. let g = l.grid in
+        pair_law g.disks g.rows l.even g.some_disks g.few_disks g.some_rows g.few_rows };
 
     fn disks(&self) -> usize {
         self.grid.disks

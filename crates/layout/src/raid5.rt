@@ -16,7 +16,8 @@ pub struct Raid5 {
 impl Raid5 {
     // 3 to 8 disks and 1 to 4,096 rows.
     pub fn new(disks: usize, rows: usize) -> Result<Raid5, Denial>
-        ensures { Made (raid5_numbers disks rows) (λ l. (l.grid.disks ≡ disks) × (l.grid.rows ≡ rows)) result }
+        ensures { Made (raid5_numbers disks rows)
+            (λ l. (l.grid.disks ≡ disks) × (l.grid.rows ≡ rows)) result }
     {
         Ok(Raid5 {
             grid: Grid::new(disks, rows)?,
@@ -34,7 +35,8 @@ impl Raid5 {
 impl Layout for Raid5 {
     ghost shape = { λ l. raid5 l.grid.disks l.grid.rows };
 
-    ghost placing = { λ l. raid5_law l.grid.disks l.grid.rows l.grid.some_disks l.grid.few_disks l.grid.some_rows l.grid.few_rows };
+    ghost placing = { λ l. let g = l.grid in
+        raid5_law g.disks g.rows g.some_disks g.few_disks g.some_rows g.few_rows };
 
     fn disks(&self) -> usize {
         self.grid.disks
