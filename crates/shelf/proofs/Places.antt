@@ -1,32 +1,13 @@
 -- What a change of a memory shelf's bytes leaves at each place.
-use Rattle.std.specs.Prelude.{◌≡◌, ℕ, ◌+◌, ◌-◌, ◌*◌, ◌<◌, ◌≤◌, ◌&&◌, ◌⊎◌, List, ◌++◌, length, take, drop, replicate, vec_items, vec_len, Vec, ◌≢◌, nat_lt, refl}
-use Rattle.std.proofs.Common.{sym, ap, ap₂, ◌∙◌, inl, inr, arith, length-append, length-drop, rules}
-use borrow.Rule.Slice.PartMut.{put_mid}
-use Rattle.std.proofs.lemmas.List.{append_assoc, drop-append-le, drop_at, drop-drop, drop-replicate, drop-take, length-take-le, places, with_items_is, take-append-le, take-replicate, take-take, length-replicate}
+use Rattle.std.specs.Prelude.{◌≡◌, ℕ, ◌+◌, ◌-◌, ◌*◌, ◌<◌, ◌≤◌, ◌&&◌, ◌⊎◌, List, ◌++◌, length, take, drop, replicate, ◌≢◌, nat_lt, refl}
+use Rattle.std.proofs.Common.{sym, ap, ◌∙◌, inl, inr, arith, length-append, length-drop}
+use Rattle.std.proofs.lemmas.List.{append_assoc, drop-append-le, drop_at, drop-drop, drop-replicate, drop-take, length-take-le, take-append-le, take-replicate, take-take, length-replicate}
 use Rattle.std.proofs.lemmas.Bool.{ltb-true, cases_order, cases_Bool, and_parts, cond-true, cond-false}
-use Rattle.std.specs.Vec.{with_items}
-use Rattle.std.specs.declared.alloc.Global.{Global}
 use Rattle.units.specs.Units.{unit_at, with_unit, zeros}
 use Rattle.units.proofs.Pools.{unit_at_other, unit_at_same}
 use Rattle.shelf.specs.Meaning.{Renewed, Stored, Within}
 use Rattle.shelf.specs.Memory.{bytes_at, memory, with_zeros, Zeroed}
 use Rattle.shelf.specs.Places.{in_range, next, place_fits}
-
--- what fits the length of a Vec fits the list that it holds
-pub held : (v : Vec ℕ Global) {n : ℕ} → n ≤ vec_len v → n ≤ length (vec_items v)
-held v h = let e = v.ok.0 in omega arith
-
--- what a Vec holds whose n bytes from a on were written over
-pub overwritten : (v : Vec ℕ Global) (xs ys zs : List ℕ) (a k n : ℕ) → xs ≡ vec_items v → ys ≡ zs → length zs ≡ n → k ≡ n → a + n ≤ vec_len v
-    → vec_items (with_items v (put_mid a k xs ys)) ≡ take a (vec_items v) ++ (zs ++ drop (a + n) (vec_items v))
-overwritten v xs ys zs a k n held is l eq fits =
-    let len : length ys ≡ k = ap length is ∙ l ∙ sym eq in
-    let all : length xs ≡ vec_len v = ap length held ∙ sym v.ok.0 in
-    let room : a + k ≤ length xs = omega arith in
-    let whole : length (put_mid a k xs ys) ≡ length xs = search (rules, places) in
-    with_items_is v (put_mid a k xs ys) (whole ∙ all)
-    ∙ ap₂ (λ ws us. take a ws ++ (us ++ drop k (drop a ws))) held is
-    ∙ ap (λ ws. take a (vec_items v) ++ (zs ++ ws)) (drop-drop k a (vec_items v) ∙ ap (λ m. drop (a + m) (vec_items v)) eq)
 
 -- places have different numbers
 pub places_apart : (R d r e q : ℕ) → r < R → q < R → (e ≡ d → q ≢ r) → e * R + q ≢ d * R + r

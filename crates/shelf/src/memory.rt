@@ -1,7 +1,13 @@
 // A shelf in memory.
-ghost use Rattle.std.specs.Prelude.{◌*◌, ◌≤◌, vec_len};
+ghost use Rattle.std.specs.Prelude.{◌≡◌, ◌+◌, ◌*◌, ◌<◌, ◌≤◌, length, vec_len};
 
-mod calls;
+use crate::extent::Extent;
+use crate::{MOST_DISKS, Place, Shelf};
+use denial::fault::ShelfFault;
+use units::unit::UNIT;
+
+// The most rows that a memory shelf takes.
+const MOST_ROWS: usize = 4096;
 
 // Disk after disk, and of each disk row after row: the place of disk d and row r is unit d × rows + r of the bytes.
 #[derive(Drop)]
@@ -12,4 +18,133 @@ pub struct MemoryShelf {
     ghost few: { disks ≤ 32 },
     ghost short: { rows ≤ 4096 },
     ghost whole: { disks * rows * 512 ≤ vec_len bytes },
+}
+
+impl MemoryShelf {
+    ghost use Rattle.shelf.specs.Meaning.{Renewed, Stored, Within};
+    ghost use Rattle.shelf.specs.Memory.{kept, new_memory, with_zeros, Zeroed};
+    ghost use Rattle.units.specs.Units.{with_unit};
+
+    // A shelf over these bytes; one with no disks where there are too many of either, or the bytes are not a unit for each place.
+    pub fn new(disks: usize, rows: usize, bytes: Vec<u8>) -> MemoryShelf
+        ensures meaning { kept result ≡ new_memory disks rows bytes.items }
+        ensures bytes { result.bytes ≡ bytes }
+    {
+        if disks <= MOST_DISKS && rows <= MOST_ROWS && bytes.len() == disks * rows * UNIT {
+            return MemoryShelf { disks, rows, bytes };
+        }
+        MemoryShelf {
+            disks: 0,
+            rows: 0,
+            bytes,
+        }
+    }
+
+    // The bytes given back, as the shelf holds them now.
+    pub fn into_bytes(self) -> Vec<u8>
+        ensures { result ≡ self.bytes }
+    {
+        self.bytes
+    }
+
+    // Where the bytes of a place in range begin.
+    #[tactic(auto, using(crate::specs::Places::place_fits))]
+    fn start(&self, place: Place) -> usize
+        requires disk { place.disk < self.now.disks }
+        requires row { place.row < self.now.rows }
+        ensures at { result ≡ (place.disk * self.now.rows + place.row) * 512 }
+        ensures fits { result + 512 ≤ vec_len self.now.bytes }
+    {
+        (place.disk * self.rows + place.row) * UNIT
+    }
+
+    // Copies out the unit of a place in range.
+    fn get(&self, place: Place, unit: &mut [u8])
+        requires { Within self.now.disks self.now.rows place.disk place.row (length unit.old) }
+        ensures { unit.new ≡ (kept self.now).bytes place.disk place.row }
+    {
+        let at = self.start(place);
+        unit.copy_from_slice(&self.bytes[at..at + UNIT]);
+    }
+
+    // Puts another unit at a place in range.
+    fn put(&mut self, place: Place, unit: &[u8])
+        requires { Within self.old.disks self.old.rows place.disk place.row (length unit.now) }
+        ensures stored { Stored (kept self.old) place.disk place.row unit.now (kept self.new) }
+        ensures bytes { self.new.bytes.items ≡ with_unit self.old.bytes.items (place.disk * self.old.rows + place.row) unit.now }
+    {
+        let at = self.start(place);
+        let held = &mut self.bytes[at..at + UNIT];
+        held.copy_from_slice(unit);
+    }
+
+    // Puts zeros at every place of a disk in range.
+    fn clear(&mut self, disk: usize)
+        requires { disk < self.old.disks }
+        ensures renewed { Renewed (kept self.old) disk (kept self.new) }
+        ensures zeroed { Zeroed (kept self.new) disk }
+        ensures bytes { self.new.bytes.items ≡ with_zeros self.old.bytes.items (disk * self.old.rows) self.old.rows }
+    {
+        let at = disk * self.rows * UNIT;
+        let held = &mut self.bytes[at..at + self.rows * UNIT];
+        held.fill(0);
+    }
+
+    fn extent(&self) -> Extent
+        ensures disks { result.disks ≡ self.now.disks }
+        ensures rows { result.rows ≡ self.now.rows }
+    {
+        Extent {
+            disks: self.disks,
+            rows: self.rows,
+        }
+    }
+}
+
+impl Shelf for MemoryShelf {
+    ghost use Rattle.std.proofs.Common.{arith};
+    ghost use Rattle.shelf.specs.Memory.{kept, Reading, Renewing, Writing};
+    ghost use Rattle.shelf.specs.Places.{place_unit};
+
+    ghost meaning = { kept };
+
+    ghost reading = { Reading };
+
+    ghost writing = { Writing };
+
+    ghost renewing = { Renewing };
+
+    ghost lawful = { λ s.
+        let whole : s.disks * s.rows * 512 ≤ length s.bytes.items = omega arith in
+        record { few = s.few; units = place_unit s.disks s.rows s.bytes.items whole } };
+
+    fn read(&mut self, place: Place, buffer: &mut [u8]) -> Result<(), ShelfFault> {
+        self.extent().check(place, buffer.len())?;
+        self.get(place, buffer);
+        Ok(())
+    }
+
+    fn write(&mut self, place: Place, bytes: &[u8]) -> Result<(), ShelfFault> {
+        self.extent().check(place, bytes.len())?;
+        self.put(place, bytes);
+        Ok(())
+    }
+
+    fn renew(&mut self, disk: usize) -> Result<(), ShelfFault> {
+        self.extent().check_disk(disk)?;
+        self.clear(disk);
+        Ok(())
+    }
+
+    fn disks(&self) -> usize {
+        self.disks
+    }
+
+    fn rows(&self) -> usize {
+        self.rows
+    }
+
+    fn marked(&self, _disk: usize) -> bool {
+        false
+    }
 }
