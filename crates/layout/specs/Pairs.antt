@@ -8,6 +8,7 @@ use Rattle.layout.specs.Tables.{pair}
 use Rattle.layout.specs.Rings.{owner_within}
 
 module _ (n R : ℕ) (even : n % 2 ≡ 0) (some : 2 ≤ n) where
+  -- the law of these layouts
   pub pair_law : n ≤ 16 → 1 ≤ R → R ≤ 4096 → PlacingLaw (pair n R)
   pair_law few some_rows low = record {
     few_disks = few;

@@ -9,19 +9,23 @@ use Rattle.layout.specs.Tables.{raid5, raid5_disk, raid5_member}
 use Rattle.layout.specs.Rings.{owner_within, round}
 
 module _ (n R : ℕ) (some : 3 ≤ n) where
-  -- to go from a member to its disk and back gives the member, and likewise from a disk
+  -- a member's disk is one of the n
   disk_there : (s j : ℕ) → j < n → raid5_disk n s j < n
   disk_there s j h = grind (arith, nat_tests, mod_below)
 
+  -- the member on a member's disk is that member
   back : (s j : ℕ) → j < n → raid5_member n s (raid5_disk n s j) ≡ j
   back s j h = let m = mod_below s n (omega arith) in grind (arith, nat_tests, round)
 
+  -- the disk of a disk's member is that disk
   there : (s d : ℕ) → d < n → raid5_disk n s (raid5_member n s d) ≡ d
   there s d h = let m = mod_below s n (omega arith) in grind (arith, nat_tests, round)
 
+  -- a disk's member is one of the n
   member_there : (s d : ℕ) → d < n → raid5_member n s d < n
   member_there s d h = grind (arith, nat_tests, mod_below)
 
+  -- the law of these layouts
   pub raid5_law : n ≤ 8 → 1 ≤ R → R ≤ 4096 → PlacingLaw (raid5 n R)
   raid5_law few rows low = record {
     few_disks = omega arith;
