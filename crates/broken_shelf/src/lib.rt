@@ -46,10 +46,9 @@ impl BrokenShelf {
 
     // Marks the disk, and gives its fault.
     fn fail(&mut self, place: Place) -> ShelfFault
-        ensures answer { Err result ≡ fault self.old place.disk place.row }
+        ensures answer { Err result ≡ fault self.old place }
         ensures marks { (d : ℕ) → has self.new.marks d ≡ (has self.old.marks d || (d == place.disk && nat_lt place.disk 32)) }
-        ensures rows { self.new.rows ≡ self.old.rows }
-        ensures code { self.new.code ≡ self.old.code }
+        ensures others { self.new ≡ record self.old { marks = self.new.marks } }
     {
         self.marks.insert(place.disk);
         ShelfFault {
@@ -61,9 +60,9 @@ impl BrokenShelf {
 
     // What a read and a write of `len` bytes come to: in range a fault.
     fn access(&mut self, place: Place, len: usize) -> Result<(), ShelfFault>
-        ensures faults { AlwaysFaults self.old place.disk place.row len result self.new }
-        ensures inside { Within 32 self.old.rows place.disk place.row len → Marked (broken self.old) place.disk (broken self.new) }
-        ensures outside { (Within 32 self.old.rows place.disk place.row len → ⊥) → (result ≡ out_of_range place.disk place.row) × (self.new ≡ self.old) }
+        ensures faults { AlwaysFaults self.old place len result self.new }
+        ensures inside { Within 32 self.old.rows place len → Marked (broken self.old) place.disk (broken self.new) }
+        ensures outside { (Within 32 self.old.rows place len → ⊥) → (result ≡ out_of_range place) × (self.new ≡ self.old) }
     {
         self.extent().check(place, len)?;
         Err(self.fail(place))
@@ -73,9 +72,9 @@ impl BrokenShelf {
 impl Shelf for BrokenShelf {
     ghost meaning = { broken };
 
-    ghost reading = { λ s p before a _ t. AlwaysFaults s p.disk p.row (length before) a t };
+    ghost reading = { λ s p before a _ t. AlwaysFaults s p (length before) a t };
 
-    ghost writing = { λ s p bytes a t. AlwaysFaults s p.disk p.row (length bytes) a t };
+    ghost writing = { λ s p bytes a t. AlwaysFaults s p (length bytes) a t };
 
     ghost renewing = { AlwaysFaultsRenewal };
 

@@ -2,43 +2,45 @@
 use Rattle.std.specs.Prelude.{◌≡◌, ℕ, ◌+◌, ◌-◌, ◌*◌, ◌<◌, ◌≤◌, ◌&&◌, ◌⊎◌, List, ◌++◌, length, take, drop, replicate, ◌≢◌, nat_lt, refl}
 use Rattle.std.proofs.Common.{sym, ap, ◌∙◌, inl, inr, arith, length-append, length-drop}
 use Rattle.std.proofs.lemmas.List.{append_assoc, drop-append-le, drop_at, drop-drop, drop-replicate, drop-take, length-take-le, take-append-le, take-replicate, take-take, length-replicate}
+use Rattle.std.proofs.lemmas.Nat.{row_fits, same_from_place}
 use Rattle.std.proofs.lemmas.Bool.{ltb-true, cases_order, cases_Bool, and_parts, cond-true, cond-false}
 use Rattle.units.specs.Units.{unit_at, with_unit, zeros}
 use Rattle.units.proofs.Pools.{unit_at_other, unit_at_same}
+use Rattle.units.specs.declared.place.Place.{Place}
+use Rattle.shelf.proofs.Equal.{same_place}
 use Rattle.shelf.specs.Meaning.{Renewed, Stored, Within}
 use Rattle.shelf.specs.Memory.{bytes_at, memory, with_zeros, Zeroed}
-use Rattle.shelf.specs.Places.{in_range, next, place_fits}
+use Rattle.shelf.specs.Places.{in_range, place_fits}
 
 -- places have different numbers
-pub places_apart : (R d r e q : ℕ) → r < R → q < R → (e ≡ d → q ≢ r) → e * R + q ≢ d * R + r
-places_apart R d r e q h k ne same = elim (cases_order e d) [
-  | inl eq ↦ let s : e * R ≡ d * R = ap (λ x. x * R) eq in ne eq (omega arith)
-  | inr o ↦ elim o [ inl l ↦ omega (arith, next R e d l) | inr l ↦ omega (arith, next R d e l) ]
-]
+pub places_apart : (R : ℕ) (p q : Place) → p.row < R → q.row < R → q ≢ p → q.disk * R + q.row ≢ p.disk * R + p.row
+places_apart R p q h k ne same =
+    let e = same_from_place q.disk q.row p.disk p.row R k h same in ne (same_place q p e.0 e.1)
 
 -- two lists of bytes that agree on a place's unit hold the same there
-pub same_place : (n R : ℕ) (bs cs : List ℕ) (d r : ℕ)
-    → (d < n → r < R → unit_at cs (d * R + r) ≡ unit_at bs (d * R + r)) → bytes_at n R cs d r ≡ bytes_at n R bs d r
-same_place n R bs cs d r h = elim (cases_Bool (nat_lt d n && nat_lt r R)) [
-  | inl t ↦ let p = and_parts (nat_lt d n) (nat_lt r R) t in
-      cond-true _ _ _ t ∙ h (ltb-true d n p.0) (ltb-true r R p.1) ∙ sym (cond-true _ _ _ t)
+pub same_bytes : (n R : ℕ) (bs cs : List ℕ) (p : Place)
+    → (p.disk < n → p.row < R → unit_at cs (p.disk * R + p.row) ≡ unit_at bs (p.disk * R + p.row))
+    → bytes_at n R cs p ≡ bytes_at n R bs p
+same_bytes n R bs cs p h = elim (cases_Bool (nat_lt p.disk n && nat_lt p.row R)) [
+  | inl t ↦ let both = and_parts (nat_lt p.disk n) (nat_lt p.row R) t in
+      cond-true _ _ _ t ∙ h (ltb-true p.disk n both.0) (ltb-true p.row R both.1) ∙ sym (cond-true _ _ _ t)
   | inr f ↦ cond-false _ _ _ f ∙ sym (cond-false _ _ _ f)
 ]
 
 -- another unit at a place's number is other bytes at that place, and the same everywhere else
-pub stored : (n R : ℕ) (bs us cs : List ℕ) (d r : ℕ) → n * R * 512 ≤ length bs → Within n R d r (length us)
-    → cs ≡ with_unit bs (d * R + r) us → Stored (memory n R bs) d r us (memory n R cs)
-stored n R bs us cs d r whole w is =
-    let i = d * R + r in
-    let fits = place_fits n R bs whole d r w.disk w.row in
+pub stored : (n R : ℕ) (bs us cs : List ℕ) (p : Place) → n * R * 512 ≤ length bs → Within n R p (length us)
+    → cs ≡ with_unit bs (p.disk * R + p.row) us → Stored (memory n R bs) p us (memory n R cs)
+stored n R bs us cs p whole w is =
+    let i = p.disk * R + p.row in
+    let fits = place_fits n R bs whole p.disk p.row w.disk w.row in
     let unit : (j : ℕ) → unit_at cs j ≡ unit_at (with_unit bs i us) j = λ j. ap (λ zs. unit_at zs j) is in
     record {
       disks = refl;
       rows = refl;
-      there = in_range n R cs d r w.disk w.row ∙ unit i ∙ unit_at_same bs us i fits w.unit;
-      elsewhere = λ e q ne. same_place n R bs cs e q (λ h k.
-          unit (e * R + q)
-          ∙ unit_at_other bs us i fits w.unit (e * R + q) (place_fits n R bs whole e q h k) (places_apart R d r e q w.row k ne));
+      there = in_range n R cs p w.disk w.row ∙ unit i ∙ unit_at_same bs us i fits w.unit;
+      elsewhere = λ q ne. same_bytes n R bs cs q (λ h k.
+          unit (q.disk * R + q.row)
+          ∙ unit_at_other bs us i fits w.unit (q.disk * R + q.row) (place_fits n R bs whole q.disk q.row h k) (places_apart R p q w.row k ne));
       marks = λ _. refl;
     }
 
@@ -78,20 +80,24 @@ module _ (bs : List ℕ) (i n : ℕ) (fits : i * 512 + n * 512 ≤ length bs) wh
 
 -- the bytes of a disk lie within the shelf's
 pub disk_fits : (n R : ℕ) (bs : List ℕ) (d : ℕ) → n * R * 512 ≤ length bs → d < n → d * R * 512 + R * 512 ≤ length bs
-disk_fits n R bs d whole h = omega (arith, next R d n h)
+disk_fits n R bs d whole h = omega (arith, row_fits d R n R h (omega arith))
 
 module _ (n R : ℕ) (bs cs : List ℕ) (d : ℕ) (whole : n * R * 512 ≤ length bs) (h : d < n) (is : cs ≡ with_zeros bs (d * R) R) where
   fits : d * R * 512 + R * 512 ≤ length bs
   fits = disk_fits n R bs d whole h
 
   pub zeroed : Zeroed (memory n R cs) d
-  zeroed r k = in_range n R cs d r h k ∙ ap (λ zs. unit_at zs (d * R + r)) is ∙ unit_of_zeros bs (d * R) R fits r k
+  zeroed p at k =
+      in_range n R cs p (omega arith) k
+      ∙ ap (λ e. unit_at cs (e * R + p.row)) at
+      ∙ ap (λ zs. unit_at zs (d * R + p.row)) is
+      ∙ unit_of_zeros bs (d * R) R fits p.row k
 
   -- a place lies beside another disk
   beside : (e q : ℕ) → q < R → (e ≢ d) → (e * R + q < d * R) ⊎ (d * R + R ≤ e * R + q)
   beside e q k ne = elim (cases_order e d) [
     | inl same ↦ absurd (ne same)
-    | inr o ↦ elim o [ inl l ↦ inl (omega (arith, next R e d l)) | inr l ↦ inr (omega (arith, next R d e l)) ]
+    | inr o ↦ elim o [ inl l ↦ inl (omega (arith, row_fits e R d R l (omega arith))) | inr l ↦ inr (omega (arith, row_fits d R e R l (omega arith))) ]
   ]
 
   -- zeros all over a disk renew it
@@ -99,8 +105,9 @@ module _ (n R : ℕ) (bs cs : List ℕ) (d : ℕ) (whole : n * R * 512 ≤ lengt
   renewed = record {
     disks = refl;
     rows = refl;
-    elsewhere = λ e q ne. same_place n R bs cs e q (λ _ k.
-        ap (λ zs. unit_at zs (e * R + q)) is ∙ unit_beside_zeros bs (d * R) R fits (e * R + q) (beside e q k ne));
+    elsewhere = λ q ne. same_bytes n R bs cs q (λ _ k.
+        ap (λ zs. unit_at zs (q.disk * R + q.row)) is
+        ∙ unit_beside_zeros bs (d * R) R fits (q.disk * R + q.row) (beside q.disk q.row k ne));
     there = refl;
     others = λ _ _. refl;
   }

@@ -1,16 +1,18 @@
 -- Each call of a shelf, seen from one place and one disk; then over lists of calls.
-use Rattle.std.proofs.Common.{◌≡◌, ℕ, ◌<◌, ◌≤◌, Bool, true, false, cond, eqb, ◌⊎◌, List, [], ◌∷◌, length, Some, None, Ok, Err, Option, sym, refl, ap, ◌∙◌, subst, ap₂, inl, inr, arith}
+use Rattle.std.proofs.Common.{◌≡◌, ℕ, ◌<◌, ◌≤◌, Bool, true, false, cond, eqb, ◌⊎◌, List, [], ◌∷◌, length, Some, Ok, Err, Option, sym, refl, ap, ◌∙◌, subst, inl, inr, arith}
 use mathlib.Core.Logic.{⊎_map}
-use Rattle.std.proofs.lemmas.Bool.{cases_eq, cases_lt, cond-false, cond-true, eq-eqb, ne_eqb}
+use Rattle.std.proofs.lemmas.Bool.{cases_eq, cases_lt, cond_both, cond-false, cond-true, eq-eqb, ne_eqb}
+use Rattle.std.proofs.lemmas.Option.{none-some, same_Some}
 use Rattle.denial.specs.declared.fault.ShelfFault.{ShelfFault}
-use Rattle.shelf.specs.Meaning.{Answer, DiskFault, Marked, Meaning, out_of_range, Reads, Renewed, Renews, Spoilt, Stored, Within, Writes}
+use Rattle.units.specs.declared.place.Place.{Place}
+use Rattle.shelf.specs.Meaning.{Answer, DiskFault, first_of, Marked, Meaning, out_of_range, Reads, Renewed, Renews, Spoilt, Stored, Within, Writes}
 use Rattle.shelf.proofs.Equal.{by_number, this_place}
 use Rattle.shelf.specs.Runs.{Call, Goes, known, marked_after, marked_by, read, Remembers, renew, Runs, write}
 
 -- an access is in range or not
-within : (disks rows d r n : ℕ) → Within disks rows d r n ⊎ (Within disks rows d r n → ⊥)
-within disks rows d r n = elim (cases_lt d disks) [
-  | inl h ↦ elim (cases_lt r rows) [
+within : (disks rows : ℕ) (p : Place) (n : ℕ) → Within disks rows p n ⊎ (Within disks rows p n → ⊥)
+within disks rows p n = elim (cases_lt p.disk disks) [
+  | inl h ↦ elim (cases_lt p.row rows) [
     | inl k ↦ elim (cases_eq n 512) [
       | inl u ↦ inl (record { disk = h; row = k; unit = u })
       | inr u ↦ inr (λ w. u w.unit)
@@ -21,17 +23,17 @@ within disks rows d r n = elim (cases_lt d disks) [
 ]
 
 -- a served answer is given in range, and a fault in range has not the code of one out of range
-module _ (d r : ℕ) (In P : Type 0) (which : In ⊎ (In → ⊥)) (inside : In → P) where
-  served : (u : Unit {0}) → ((In → ⊥) → Ok u ≡ out_of_range d r) → P
+module _ (p : Place) (In P : Type 0) (which : In ⊎ (In → ⊥)) (inside : In → P) where
+  served : (u : Unit {0}) → ((In → ⊥) → Ok u ≡ out_of_range p) → P
   served u outside = elim which [
     | inl w ↦ inside w
-    | inr o ↦ let e = outside o in let z : ◌≡◌ {A = ℕ} 0 1 = cc in absurd (omega arith)
+    | inr o ↦ let e = outside o in cc
   ]
 
-  faulted : (f : ShelfFault) → (P → 2 ≤ f.code) → ((In → ⊥) → Err f ≡ out_of_range d r)
+  faulted : (f : ShelfFault) → (P → 2 ≤ f.code) → ((In → ⊥) → Err f ≡ out_of_range p)
       → ((eqb f.code 1 ≡ false) × P) ⊎ ((eqb f.code 1 ≡ true) × (In → ⊥))
   faulted f low outside = elim which [
-    | inl w ↦ let p = inside w in inl (ne_eqb f.code 1 (λ e. omega (arith, low p)), p)
+    | inl w ↦ let done = inside w in inl (ne_eqb f.code 1 (λ e. omega (arith, low done)), done)
     | inr o ↦ inr (eq-eqb f.code 1 (ap (λ x. x.code) (same_fault (outside o))), o)
   ]
     where
@@ -40,19 +42,11 @@ module _ (d r : ℕ) (In P : Type 0) (which : In ⊎ (In → ⊥)) (inside : In 
 
 -- a test that decides nothing
 either : {A : Type 0} (b : Bool) (x : A) → x ≡ cond b x x
-either true x = refl
-either false x = refl
-
--- nothing is known to be something
-nothing : {A B : Type 0} {x : A} → None ≡ Some x → B
-nothing e = let z : ◌≡◌ {A = ℕ} 0 1 = cc in absurd (omega arith)
-
-just : {A : Type 0} {x y : A} → Some x ≡ Some y → x ≡ y
-just e = cc
+either b x = cond_both b x x (λ y. x ≡ y) (λ _. refl) (λ _. refl)
 
 -- the place's bytes in m are those that are known, if any are
-Holds : Meaning → ℕ → ℕ → Option (List ℕ) → Type 0
-Holds m d r k = (bs : List ℕ) → k ≡ Some bs → m.bytes d r ≡ bs
+Holds : Meaning → Place → Option (List ℕ) → Type 0
+Holds m p k = (bs : List ℕ) → k ≡ Some bs → m.bytes p ≡ bs
 
 -- what is left of a fault: a change that only a fault in range makes, or none
 Left : ShelfFault → Type 0 → Meaning → Meaning → Type 0
@@ -60,12 +54,12 @@ Left f Change n m = ((eqb f.code 1 ≡ false) × Change) ⊎ ((eqb f.code 1 ≡ 
 
 module _ (f : ShelfFault) (Change : Type 0) (n m : Meaning) (left : Left f Change n m) where
   -- a disk's mark after a fault of disk e
-  left_mark : (d e : ℕ) → (Change → m.mark e ≡ true) → (Change → (g : ℕ) → (g ≡ e → ⊥) → m.mark g ≡ n.mark g)
-      → m.mark d ≡ cond (eqb d e) (marked_by (Err f) (n.mark d)) (n.mark d)
+  left_mark : (d e : ℕ) (b : Bool) → n.mark d ≡ b → (Change → m.mark e ≡ true)
+      → (Change → (g : ℕ) → (g ≡ e → ⊥) → m.mark g ≡ n.mark g) → m.mark d ≡ cond (eqb d e) (marked_by (Err f) b) b
   unfolding Left
-  left_mark d e there others = elim left [
-    | inl p ↦ by_number d e _ _ _ (λ is. ap m.mark is ∙ there p.1 ∙ sym (cond-false _ _ _ p.0)) (others p.1 d)
-    | inr p ↦ let same = ap (λ x. x.mark d) p.1 in by_number d e _ _ _ (λ is. same ∙ sym (cond-true _ _ _ p.0)) (λ ne. same)
+  left_mark d e b was there others = elim left [
+    | inl p ↦ by_number d e _ _ _ (λ is. ap m.mark is ∙ there p.1 ∙ sym (cond-false _ _ _ p.0)) (λ ne. others p.1 d ne ∙ was)
+    | inr p ↦ let same = ap (λ x. x.mark d) p.1 ∙ was in by_number d e _ _ _ (λ is. same ∙ sym (cond-true _ _ _ p.0)) (λ ne. same)
   ]
 
   -- what holds of the change, and where there is none
@@ -75,27 +69,27 @@ module _ (f : ShelfFault) (Change : Type 0) (n m : Meaning) (left : Left f Chang
 
 -- ---- each call by its answer
 
-module _ (n m : Meaning) (e q : ℕ) (before after : List ℕ) where
-  read_served : (u : Unit {0}) → Reads n e q before (Ok u) after m → m ≡ n
-  read_served u h = (served e q _ _ (within n.disks n.rows e q (length before)) h.inside u (λ o. (h.outside o).0)).1
+module _ (n m : Meaning) (q : Place) (before after : List ℕ) where
+  read_served : (u : Unit {0}) → Reads n q before (Ok u) after m → m ≡ n
+  read_served u h = (served q _ _ (within n.disks n.rows q (length before)) h.inside u (λ o. (h.outside o).0)).1
 
-  read_handed : (u : Unit {0}) → Reads n e q before (Ok u) after m → after ≡ n.bytes e q
-  read_handed u h = (served e q _ _ (within n.disks n.rows e q (length before)) h.inside u (λ o. (h.outside o).0)).0
+  read_handed : (u : Unit {0}) → Reads n q before (Ok u) after m → after ≡ n.bytes q
+  read_handed u h = (served q _ _ (within n.disks n.rows q (length before)) h.inside u (λ o. (h.outside o).0)).0
 
-  read_faulted : (f : ShelfFault) → Reads n e q before (Err f) after m → Left f (Marked n e m) n m
+  read_faulted : (f : ShelfFault) → Reads n q before (Err f) after m → Left f (Marked n q.disk m) n m
   unfolding Left
   read_faulted f h = ⊎_map (λ p. (p.0, p.1.2)) (λ p. (p.0, (h.outside p.1).2))
-      (faulted e q _ (DiskFault e q f × (after ≡ before) × Marked n e m) (within n.disks n.rows e q (length before)) h.inside f
+      (faulted q _ (DiskFault q f × (after ≡ before) × Marked n q.disk m) (within n.disks n.rows q (length before)) h.inside f
       (λ p. p.0.low) (λ o. (h.outside o).0))
 
-module _ (n m : Meaning) (e q : ℕ) (us : List ℕ) where
-  write_served : (u : Unit {0}) → Writes n e q us (Ok u) m → Stored n e q us m
-  write_served u h = served e q _ _ (within n.disks n.rows e q (length us)) h.inside u (λ o. (h.outside o).0)
+module _ (n m : Meaning) (q : Place) (us : List ℕ) where
+  write_served : (u : Unit {0}) → Writes n q us (Ok u) m → Stored n q us m
+  write_served u h = served q _ _ (within n.disks n.rows q (length us)) h.inside u (λ o. (h.outside o).0)
 
-  write_faulted : (f : ShelfFault) → Writes n e q us (Err f) m → Left f (Spoilt n e q m) n m
+  write_faulted : (f : ShelfFault) → Writes n q us (Err f) m → Left f (Spoilt n q m) n m
   unfolding Left
   write_faulted f h = ⊎_map (λ p. (p.0, p.1.1)) (λ p. (p.0, (h.outside p.1).1))
-      (faulted e q _ (DiskFault e q f × Spoilt n e q m) (within n.disks n.rows e q (length us)) h.inside f
+      (faulted q _ (DiskFault q f × Spoilt n q m) (within n.disks n.rows q (length us)) h.inside f
       (λ p. p.0.low) (λ o. (h.outside o).0))
 
 -- a disk is one of the shelf's or not
@@ -104,62 +98,62 @@ a_disk d disks = ⊎_map (λ h. h) (λ h k. omega arith) (cases_lt d disks)
 
 module _ (n m : Meaning) (e : ℕ) where
   renew_served : (u : Unit {0}) → Renews n e (Ok u) m → Renewed n e m
-  renew_served u h = served e 0 _ _ (a_disk e n.disks) h.inside u (λ o. (h.outside o).0)
+  renew_served u h = served (first_of e) _ _ (a_disk e n.disks) h.inside u (λ o. (h.outside o).0)
 
   renew_faulted : (f : ShelfFault) → Renews n e (Err f) m → Left f (Marked n e m) n m
   unfolding Left
   renew_faulted f h = ⊎_map (λ p. (p.0, p.1.1)) (λ p. (p.0, (h.outside p.1).1))
-      (faulted e 0 _ (DiskFault e 0 f × Marked n e m) (a_disk e n.disks) h.inside f
+      (faulted (first_of e) _ (DiskFault (first_of e) f × Marked n e m) (a_disk e n.disks) h.inside f
       (λ p. p.0.low) (λ o. (h.outside o).0))
 
--- ---- one call more, seen from disk d and row r
+-- ---- one call more, seen from one place and one disk
 
-bytes_step : (n m : Meaning) (c : Call) → Goes n c m → (d r : ℕ) (first : ℕ → ℕ → List ℕ) (cs : List Call) → Holds n d r (known first d r cs) → Holds m d r (known first d r (c ∷ cs))
+bytes_step : (n m : Meaning) (c : Call) → Goes n c m → (p : Place) (first : Place → List ℕ) (cs : List Call) → Holds n p (known first p cs) → Holds m p (known first p (c ∷ cs))
 unfolding Holds Left
-bytes_step n m (read e q before (Ok u) after) h d r first cs holds bs is =
-    ap (λ x. x.bytes d r) (read_served n m e q before after u h) ∙ holds bs is
-bytes_step n m (read e q before (Err f) after) h d r first cs holds bs is =
-    left_either f _ n m (read_faulted n m e q before after f h) (λ x. x.bytes d r ≡ n.bytes d r) (λ p. p.bytes d r) refl ∙ holds bs is
-bytes_step n m (write e q us (Ok u)) h d r first cs holds bs is =
-    let s = write_served n m e q us u h in
-    elim (this_place d r e q) [
-      | inl p ↦ ap₂ m.bytes p.0 p.1 ∙ s.there ∙ just (sym (cond-true _ _ _ p.2) ∙ is)
-      | inr p ↦ s.elsewhere d r p.0 ∙ holds bs (sym (cond-false _ _ _ p.1) ∙ is)
+bytes_step n m (read q before (Ok u) after) h p first cs holds bs is =
+    ap (λ x. x.bytes p) (read_served n m q before after u h) ∙ holds bs is
+bytes_step n m (read q before (Err f) after) h p first cs holds bs is =
+    left_either f _ n m (read_faulted n m q before after f h) (λ x. x.bytes p ≡ n.bytes p) (λ done. done.bytes p) refl ∙ holds bs is
+bytes_step n m (write q us (Ok u)) h p first cs holds bs is =
+    let s = write_served n m q us u h in
+    elim (this_place p q) [
+      | inl at ↦ ap m.bytes at.0 ∙ s.there ∙ same_Some _ _ (sym (cond-true _ _ _ at.1) ∙ is)
+      | inr ne ↦ s.elsewhere p ne.0 ∙ holds bs (sym (cond-false _ _ _ ne.1) ∙ is)
     ]
-bytes_step n m (write e q us (Err f)) h d r first cs holds bs is =
-    elim (write_faulted n m e q us f h) [
-      | inl w ↦ elim (this_place d r e q) [
-        | inl p ↦ nothing (sym (cond-false _ _ _ w.0) ∙ sym (cond-true _ _ _ p.2) ∙ is)
-        | inr p ↦ w.1.elsewhere d r p.0 ∙ holds bs (sym (cond-false _ _ _ p.1) ∙ is)
+bytes_step n m (write q us (Err f)) h p first cs holds bs is =
+    elim (write_faulted n m q us f h) [
+      | inl w ↦ elim (this_place p q) [
+        | inl at ↦ absurd (none-some _ (sym (cond-false _ _ _ w.0) ∙ sym (cond-true _ _ _ at.1) ∙ is))
+        | inr ne ↦ w.1.elsewhere p ne.0 ∙ holds bs (sym (cond-false _ _ _ ne.1) ∙ is)
       ]
-      | inr w ↦ ap (λ x. x.bytes d r) w.1 ∙ holds bs (elim (this_place d r e q) [
-        | inl p ↦ sym (cond-true _ _ _ w.0) ∙ sym (cond-true _ _ _ p.2) ∙ is
-        | inr p ↦ sym (cond-false _ _ _ p.1) ∙ is
+      | inr w ↦ ap (λ x. x.bytes p) w.1 ∙ holds bs (elim (this_place p q) [
+        | inl at ↦ sym (cond-true _ _ _ w.0) ∙ sym (cond-true _ _ _ at.1) ∙ is
+        | inr ne ↦ sym (cond-false _ _ _ ne.1) ∙ is
       ])
     ]
-bytes_step n m (renew e (Ok u)) h d r first cs holds bs is =
-    elim (cases_eq d e) [
-      | inl at ↦ nothing (sym (cond-true _ _ _ (eq-eqb d e at)) ∙ is)
-      | inr ne ↦ (renew_served n m e u h).elsewhere d r ne ∙ holds bs (sym (cond-false _ _ _ (ne_eqb d e ne)) ∙ is)
+bytes_step n m (renew e (Ok u)) h p first cs holds bs is =
+    elim (cases_eq p.disk e) [
+      | inl at ↦ absurd (none-some _ (sym (cond-true _ _ _ (eq-eqb p.disk e at)) ∙ is))
+      | inr ne ↦ (renew_served n m e u h).elsewhere p ne ∙ holds bs (sym (cond-false _ _ _ (ne_eqb p.disk e ne)) ∙ is)
     ]
-bytes_step n m (renew e (Err f)) h d r first cs holds bs is =
-    left_either f _ n m (renew_faulted n m e f h) (λ x. x.bytes d r ≡ n.bytes d r) (λ p. p.bytes d r) refl ∙ holds bs (either (eqb d e) _ ∙ is)
+bytes_step n m (renew e (Err f)) h p first cs holds bs is =
+    left_either f _ n m (renew_faulted n m e f h) (λ x. x.bytes p ≡ n.bytes p) (λ done. done.bytes p) refl ∙ holds bs (either (eqb p.disk e) _ ∙ is)
 
 mark_step : (n m : Meaning) (c : Call) → Goes n c m → (d : ℕ) (first : ℕ → Bool) (cs : List Call) → n.mark d ≡ marked_after first d cs → m.mark d ≡ marked_after first d (c ∷ cs)
 unfolding Left
-mark_step n m (read e q before (Ok u) after) h d first cs was =
-    ap (λ x. x.mark d) (read_served n m e q before after u h) ∙ was ∙ either (eqb d e) _
-mark_step n m (read e q before (Err f) after) h d first cs was =
-    left_mark f _ n m (read_faulted n m e q before after f h) d e (λ p. p.there) (λ p. p.others) ∙ ap (λ b. cond (eqb d e) (marked_by (Err f) b) b) was
-mark_step n m (write e q us (Ok u)) h d first cs was =
-    (write_served n m e q us u h).marks d ∙ was ∙ either (eqb d e) _
-mark_step n m (write e q us (Err f)) h d first cs was =
-    left_mark f _ n m (write_faulted n m e q us f h) d e (λ p. p.there) (λ p. p.others) ∙ ap (λ b. cond (eqb d e) (marked_by (Err f) b) b) was
+mark_step n m (read q before (Ok u) after) h d first cs was =
+    ap (λ x. x.mark d) (read_served n m q before after u h) ∙ was ∙ either (eqb d q.disk) _
+mark_step n m (read q before (Err f) after) h d first cs was =
+    left_mark f _ n m (read_faulted n m q before after f h) d q.disk _ was (λ p. p.there) (λ p. p.others)
+mark_step n m (write q us (Ok u)) h d first cs was =
+    (write_served n m q us u h).marks d ∙ was ∙ either (eqb d q.disk) _
+mark_step n m (write q us (Err f)) h d first cs was =
+    left_mark f _ n m (write_faulted n m q us f h) d q.disk _ was (λ p. p.there) (λ p. p.others)
 mark_step n m (renew e (Ok u)) h d first cs was =
     let s = renew_served n m e u h in
     by_number d e _ _ _ (λ is. ap m.mark is ∙ s.there) (λ ne. s.others d ne ∙ was)
 mark_step n m (renew e (Err f)) h d first cs was =
-    left_mark f _ n m (renew_faulted n m e f h) d e (λ p. p.there) (λ p. p.others) ∙ ap (λ b. cond (eqb d e) (marked_by (Err f) b) b) was
+    left_mark f _ n m (renew_faulted n m e f h) d e _ was (λ p. p.there) (λ p. p.others)
 
 SameNumbers : Meaning → Meaning → Type 0
 SameNumbers n m = (m.disks ≡ n.disks) × (m.rows ≡ n.rows)
@@ -170,19 +164,19 @@ same_numbers n m e = (ap (λ x. x.disks) e, ap (λ x. x.rows) e)
 
 numbers_step : (n m : Meaning) (c : Call) → Goes n c m → SameNumbers n m
 unfolding SameNumbers Left
-numbers_step n m (read e q before (Ok u) after) h = same_numbers n m (read_served n m e q before after u h)
-numbers_step n m (read e q before (Err f) after) h = left_either f _ n m (read_faulted n m e q before after f h) (SameNumbers n) (λ p. (p.disks, p.rows)) (refl, refl)
-numbers_step n m (write e q us (Ok u)) h = let s = write_served n m e q us u h in (s.disks, s.rows)
-numbers_step n m (write e q us (Err f)) h = left_either f _ n m (write_faulted n m e q us f h) (SameNumbers n) (λ p. (p.disks, p.rows)) (refl, refl)
+numbers_step n m (read q before (Ok u) after) h = same_numbers n m (read_served n m q before after u h)
+numbers_step n m (read q before (Err f) after) h = left_either f _ n m (read_faulted n m q before after f h) (SameNumbers n) (λ p. (p.disks, p.rows)) (refl, refl)
+numbers_step n m (write q us (Ok u)) h = let s = write_served n m q us u h in (s.disks, s.rows)
+numbers_step n m (write q us (Err f)) h = left_either f _ n m (write_faulted n m q us f h) (SameNumbers n) (λ p. (p.disks, p.rows)) (refl, refl)
 numbers_step n m (renew e (Ok u)) h = let s = renew_served n m e u h in (s.disks, s.rows)
 numbers_step n m (renew e (Err f)) h = left_either f _ n m (renew_faulted n m e f h) (SameNumbers n) (λ p. (p.disks, p.rows)) (refl, refl)
 
 -- ---- lists of calls
 
-bytes_known : (m m' : Meaning) (cs : List Call) → Runs m cs m' → (d r : ℕ) → Holds m' d r (known m.bytes d r cs)
+bytes_known : (m m' : Meaning) (cs : List Call) → Runs m cs m' → (p : Place) → Holds m' p (known m.bytes p cs)
 unfolding Holds
-bytes_known m m' [] is d r bs k = ap (λ x. x.bytes d r) is ∙ just k
-bytes_known m m' (c ∷ cs) (n, (before, last)) d r bs k = bytes_step n m' c last d r m.bytes cs (bytes_known m n cs before d r) bs k
+bytes_known m m' [] is p bs k = ap (λ x. x.bytes p) is ∙ same_Some _ _ k
+bytes_known m m' (c ∷ cs) (n, (before, last)) p bs k = bytes_step n m' c last p m.bytes cs (bytes_known m n cs before p) bs k
 
 marks_told : (m m' : Meaning) (cs : List Call) → Runs m cs m' → (d : ℕ) → m'.mark d ≡ marked_after m.mark d cs
 marks_told m m' [] is d = ap (λ x. x.mark d) is
@@ -196,10 +190,10 @@ numbers_kept m m' (c ∷ cs) (n, (before, last)) =
     let b = numbers_step n m' c last in
     (b.0 ∙ a.0, b.1 ∙ a.1)
 
-handed_out : (m m' : Meaning) (cs : List Call) (d r : ℕ) (before after bs : List ℕ)
-    → Runs m (read d r before (Ok tt) after ∷ cs) m' → known m.bytes d r cs ≡ Some bs → after ≡ bs
+handed_out : (m m' : Meaning) (cs : List Call) (p : Place) (before after bs : List ℕ)
+    → Runs m (read p before (Ok tt) after ∷ cs) m' → known m.bytes p cs ≡ Some bs → after ≡ bs
 unfolding Holds
-handed_out m m' cs d r before after bs (n, (run, last)) k = read_handed n m' d r before after tt last ∙ bytes_known m n cs run d r bs k
+handed_out m m' cs p before after bs (n, (run, last)) k = read_handed n m' p before after tt last ∙ bytes_known m n cs run p bs k
 
 pub remembers : Remembers
 unfolding Holds SameNumbers

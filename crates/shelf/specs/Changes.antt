@@ -1,22 +1,23 @@
 -- A meaning with one thing changed and nothing else, as a definition; and that each call leaves exactly such a meaning. Assumes nothing.
-use Rattle.std.specs.Prelude.{◌≡◌, ℕ, Bool, true, false, cond, ◌&&◌, List, ◌==◌}
+use Rattle.std.specs.Prelude.{◌≡◌, ℕ, Bool, true, false, if◌then◌else◌, ◌&&◌, List, ◌==◌}
 use Rattle.shelf.specs.Meaning.{Marked, Meaning, Renewed, Spoilt, Stored}
+use Rattle.units.specs.declared.place.Place.{Place}
 
 -- other bytes at one place
-abbrev pub with_bytes : Meaning → ℕ → ℕ → List ℕ → Meaning
-with_bytes m d r bs = record {
+abbrev pub with_bytes : Meaning → Place → List ℕ → Meaning
+with_bytes m p bs = record {
   disks = m.disks;
   rows = m.rows;
-  bytes = λ e q. cond (e == d && q == r) bs (m.bytes e q);
+  bytes = λ q. if q.disk == p.disk && q.row == p.row then bs else m.bytes q;
   mark = m.mark;
 }
 
--- other bytes on one disk, row by row
-abbrev pub with_disk : Meaning → ℕ → (ℕ → List ℕ) → Meaning
+-- other bytes on one disk, place by place
+abbrev pub with_disk : Meaning → ℕ → (Place → List ℕ) → Meaning
 with_disk m d bs = record {
   disks = m.disks;
   rows = m.rows;
-  bytes = λ e q. cond (e == d) (bs q) (m.bytes e q);
+  bytes = λ q. if q.disk == d then bs q else m.bytes q;
   mark = m.mark;
 }
 
@@ -26,12 +27,12 @@ with_mark m d b = record {
   disks = m.disks;
   rows = m.rows;
   bytes = m.bytes;
-  mark = λ e. cond (e == d) b (m.mark e);
+  mark = λ e. if e == d then b else m.mark e;
 }
 
 -- what a call changes is given in full: only the bytes after a faulted write, and those of a renewed disk, are the shelf's choice
 pub record ExactChanges : Type 0 where
-  pub stored : (m : Meaning) (d r : ℕ) (bs : List ℕ) (m' : Meaning) → Stored m d r bs m' → m' ≡ with_bytes m d r bs
+  pub stored : (m : Meaning) (p : Place) (bs : List ℕ) (m' : Meaning) → Stored m p bs m' → m' ≡ with_bytes m p bs
   pub marked : (m : Meaning) (d : ℕ) (m' : Meaning) → Marked m d m' → m' ≡ with_mark m d true
-  pub spoilt : (m : Meaning) (d r : ℕ) (m' : Meaning) → Spoilt m d r m' → m' ≡ with_mark (with_bytes m d r (m'.bytes d r)) d true
-  pub renewed : (m : Meaning) (d : ℕ) (m' : Meaning) → Renewed m d m' → m' ≡ with_mark (with_disk m d (m'.bytes d)) d false
+  pub spoilt : (m : Meaning) (p : Place) (m' : Meaning) → Spoilt m p m' → m' ≡ with_mark (with_bytes m p (m'.bytes p)) p.disk true
+  pub renewed : (m : Meaning) (d : ℕ) (m' : Meaning) → Renewed m d m' → m' ≡ with_mark (with_disk m d m'.bytes) d false

@@ -1,13 +1,13 @@
 -- The memory shelf: which bytes stand at which place. Assumes nothing.
-use Rattle.std.specs.Prelude.{◌≡◌, ℕ, ◌+◌, ◌*◌, ◌<◌, Bool, false, cond, ◌&&◌, List, [], ◌++◌, length, take, drop, replicate, Ok, vec_items, ◌==◌, nat_le, nat_lt}
+use Rattle.std.specs.Prelude.{◌≡◌, ℕ, ◌+◌, ◌*◌, ◌<◌, Bool, false, if◌then◌else◌, ◌&&◌, List, [], ◌++◌, length, take, drop, replicate, Ok, vec_items, ◌==◌, nat_le, nat_lt}
 use Rattle.shelf.specs.declared.memory.MemoryShelf.{MemoryShelf}
-use Rattle.shelf.specs.Meaning.{Answer, Meaning, out_of_range}
+use Rattle.shelf.specs.Meaning.{Answer, first_of, Meaning, out_of_range}
 use Rattle.units.specs.declared.place.Place.{Place}
 use Rattle.units.specs.Units.{unit_at, with_unit, zeros}
 
 -- the bytes at a place: disk after disk, and of each disk row after row; none out of range
-abbrev pub bytes_at : ℕ → ℕ → List ℕ → ℕ → ℕ → List ℕ
-bytes_at disks rows bs d r = cond (nat_lt d disks && nat_lt r rows) (unit_at bs (d * rows + r)) []
+abbrev pub bytes_at : ℕ → ℕ → List ℕ → Place → List ℕ
+bytes_at disks rows bs p = if nat_lt p.disk disks && nat_lt p.row rows then unit_at bs (p.disk * rows + p.row) else []
 
 -- a shelf over these bytes, which marks no disk
 abbrev pub memory : ℕ → ℕ → List ℕ → Meaning
@@ -16,30 +16,30 @@ memory disks rows bs = record { disks = disks; rows = rows; bytes = bytes_at dis
 -- a memory shelf of these numbers over these bytes; one with no disks where they do not fit
 abbrev pub new_memory : ℕ → ℕ → List ℕ → Meaning
 new_memory disks rows bs =
-    cond (nat_le disks 32 && (nat_le rows 4096 && length bs == disks * rows * 512)) (memory disks rows bs) (memory 0 0 bs)
+    if nat_le disks 32 && (nat_le rows 4096 && length bs == disks * rows * 512) then memory disks rows bs else memory 0 0 bs
 
 -- what a memory shelf means: its numbers over its bytes
 abbrev pub kept : MemoryShelf → Meaning
-kept s = memory s.disks s.rows (vec_items s.bytes)
+kept s = memory s.extent.disks s.extent.rows (vec_items s.bytes)
 
 -- ---- what its calls answer and leave: it never faults in range
 
 -- an access of n bytes is in range
-abbrev pub reached : MemoryShelf → ℕ → ℕ → ℕ → Bool
-reached s d r n = nat_lt d s.disks && (nat_lt r s.rows && n == 512)
+abbrev pub reached : MemoryShelf → Place → ℕ → Bool
+reached s p n = nat_lt p.disk s.extent.disks && (nat_lt p.row s.extent.rows && n == 512)
 
 -- the answer to a read or write of n bytes
-abbrev pub access_answer : MemoryShelf → ℕ → ℕ → ℕ → Answer
-access_answer s d r n = cond (reached s d r n) (Ok tt) (out_of_range d r)
+abbrev pub access_answer : MemoryShelf → Place → ℕ → Answer
+access_answer s p n = if reached s p n then Ok tt else out_of_range p
 
 -- the answer to a renewal
 abbrev pub renewal_answer : MemoryShelf → ℕ → Answer
-renewal_answer s d = cond (nat_lt d s.disks) (Ok tt) (out_of_range d 0)
+renewal_answer s d = if nat_lt d s.extent.disks then Ok tt else out_of_range (first_of d)
 
 -- all bytes after a write: another unit at the place, in range
-abbrev pub after_write : MemoryShelf → ℕ → ℕ → List ℕ → List ℕ
-after_write s d r us =
-    cond (reached s d r (length us)) (with_unit (vec_items s.bytes) (d * s.rows + r) us) (vec_items s.bytes)
+abbrev pub after_write : MemoryShelf → Place → List ℕ → List ℕ
+after_write s p us =
+    if reached s p (length us) then with_unit (vec_items s.bytes) (p.disk * s.extent.rows + p.row) us else vec_items s.bytes
 
 -- the bytes with n units of zeros from unit i on
 abbrev pub with_zeros : List ℕ → ℕ → ℕ → List ℕ
@@ -48,20 +48,20 @@ with_zeros bs i n = take (i * 512) bs ++ (replicate (n * 512) 0 ++ drop (i * 512
 -- all bytes after a renewal: zeros all over the disk, in range
 abbrev pub after_renewal : MemoryShelf → ℕ → List ℕ
 after_renewal s d =
-    cond (nat_lt d s.disks) (with_zeros (vec_items s.bytes) (d * s.rows) s.rows) (vec_items s.bytes)
+    if nat_lt d s.extent.disks then with_zeros (vec_items s.bytes) (d * s.extent.rows) s.extent.rows else vec_items s.bytes
 
 -- every place of the disk holds zeros
 abbrev pub Zeroed : Meaning → ℕ → Type 0
-Zeroed m d = (r : ℕ) → r < m.rows → m.bytes d r ≡ zeros
+Zeroed m d = (p : Place) → p.disk ≡ d → p.row < m.rows → m.bytes p ≡ zeros
 
 -- what the memory shelf says of its calls: each answer goes by the range alone; a read changes nothing
 abbrev pub Reading : MemoryShelf → Place → List ℕ → Answer → List ℕ → MemoryShelf → Type 0
-Reading s p before a after t = (a ≡ access_answer s p.disk p.row (length before)) × (t ≡ s)
+Reading s p before a after t = (a ≡ access_answer s p (length before)) × (t ≡ s)
 
 -- a write changes the place's unit
 abbrev pub Writing : MemoryShelf → Place → List ℕ → Answer → MemoryShelf → Type 0
-Writing s p bs a t = (a ≡ access_answer s p.disk p.row (length bs)) × (vec_items t.bytes ≡ after_write s p.disk p.row bs)
+Writing s p bs a t = (a ≡ access_answer s p (length bs)) × (vec_items t.bytes ≡ after_write s p bs)
 
 -- a renewal leaves zeros
 abbrev pub Renewing : MemoryShelf → ℕ → Answer → MemoryShelf → Type 0
-Renewing s d a t = (a ≡ renewal_answer s d) × (vec_items t.bytes ≡ after_renewal s d) × (d < s.disks → Zeroed (kept t) d)
+Renewing s d a t = (a ≡ renewal_answer s d) × (vec_items t.bytes ≡ after_renewal s d) × (d < s.extent.disks → Zeroed (kept t) d)

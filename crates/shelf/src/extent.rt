@@ -1,6 +1,6 @@
 // How far a shelf reaches, and the answer to what lies beyond.
 ghost use Rattle.std.specs.Prelude.{◌≡◌, ◌<◌, ◌↔◌, IsOk, Err, OnErr};
-ghost use Rattle.shelf.specs.Meaning.{out_of_range, Within};
+ghost use Rattle.shelf.specs.Meaning.{first_of, out_of_range, Within};
 
 use denial::fault::ShelfFault;
 use units::place::Place;
@@ -16,8 +16,8 @@ pub struct Extent {
 impl Extent {
     // Fault 1 unless the place is one of the shelf's and `len` bytes are a unit.
     pub fn check(self, place: Place, len: usize) -> Result<(), ShelfFault>
-        ensures within { IsOk result ↔ Within self.disks self.rows place.disk place.row len }
-        ensures outside { OnErr result (result ≡ out_of_range place.disk place.row) }
+        ensures within { IsOk result ↔ Within self.disks self.rows place len }
+        ensures outside { OnErr result (result ≡ out_of_range place) }
     {
         if place.disk < self.disks && place.row < self.rows && len == UNIT {
             Ok(())
@@ -29,7 +29,7 @@ impl Extent {
     // Fault 1 unless the disk is one of the shelf's.
     pub fn check_disk(self, disk: usize) -> Result<(), ShelfFault>
         ensures within { IsOk result ↔ (disk < self.disks) }
-        ensures outside { OnErr result (result ≡ out_of_range disk 0) }
+        ensures outside { OnErr result (result ≡ out_of_range (first_of disk)) }
     {
         if disk < self.disks {
             Ok(())
@@ -41,7 +41,7 @@ impl Extent {
 
 // The fault of a place that lies beyond.
 fn out_of_range(place: Place) -> ShelfFault
-    ensures { Err result ≡ out_of_range place.disk place.row }
+    ensures { Err result ≡ out_of_range place }
 {
     ShelfFault {
         code: 1,

@@ -1,8 +1,8 @@
 // A shelf over another, whose reads and writes fault by a script.
 ghost use Rattle.std.specs.Prelude.{◌≡◌, ℕ, Ok, OnOk, ◌&&◌, ◌||◌, ◌==◌, nat_lt};
-ghost use Rattle.shelf.specs.Fault.{ByScript, over, Reached, Reading, Renewing, Writing};
+ghost use Rattle.shelf.specs.Fault.{ByScript, fault_at, over, Reached, Reading, Renewing, Writing};
 ghost use Rattle.shelf.specs.Meaning.{out_of_range};
-ghost use Rattle.shelf.specs.Script.{Adds, code, count, Fresh};
+ghost use Rattle.shelf.specs.Script.{Adds, count, Fresh};
 ghost use Rattle.units.specs.Sets.{has};
 ghost use Rattle.std.proofs.Common.{rules};
 
@@ -38,8 +38,7 @@ impl<S: Shelf> FaultShelf<S> {
     // One line more in the script: the `at`th access of the disk faults with the cause of this number.
     pub fn add(&mut self, disk: usize, at: usize, cause: usize) -> Result<(), Denial>
         ensures script { Adds self.old.script disk at cause result self.new.script }
-        ensures below { self.new.below ≡ self.old.below }
-        ensures marks { self.new.marks ≡ self.old.marks }
+        ensures others { self.new ≡ record self.old { script = self.new.script } }
     {
         self.script.add(disk, at, cause)
     }
@@ -71,10 +70,9 @@ impl<S: Shelf> FaultShelf<S> {
 
     // Marks the disk here, and gives the fault of this cause.
     fn fail(&mut self, place: Place, cause: Cause) -> ShelfFault
-        ensures fault { result ≡ record { code = code cause; disk = place.disk; row = place.row } }
+        ensures fault { result ≡ fault_at place cause }
         ensures marks { (d : ℕ) → has self.new.marks d ≡ (has self.old.marks d || (d == place.disk && nat_lt place.disk 32)) }
-        ensures below { self.new.below ≡ self.old.below }
-        ensures script { self.new.script ≡ self.old.script }
+        ensures others { self.new ≡ record self.old { marks = self.new.marks } }
     {
         self.marks.insert(place.disk);
         ShelfFault {
@@ -86,8 +84,8 @@ impl<S: Shelf> FaultShelf<S> {
 
     // What a read and a write of `len` bytes come to before the shelf below is asked: a fault where it is not to be asked.
     fn admit(&mut self, place: Place, len: usize) -> Result<(), ShelfFault>
-        ensures script { ByScript S.Shelf.meaning self.old place.disk place.row len result self.new (result ≡ Ok tt) }
-        ensures outside { (Reached S.Shelf.meaning self.old place.disk place.row len → ⊥) → result ≡ out_of_range place.disk place.row }
+        ensures script { ByScript S.Shelf.meaning self.old place len result self.new (result ≡ Ok tt) }
+        ensures outside { (Reached S.Shelf.meaning self.old place len → ⊥) → result ≡ out_of_range place }
         ensures passes { OnOk result (self.new ≡ record self.old { script = self.new.script }) }
         ensures below { self.new.below ≡ self.old.below }
     {

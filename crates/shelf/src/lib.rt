@@ -32,12 +32,12 @@ pub trait Shelf {
 
     // Fills the buffer from the place; on a fault it stays as it was.
     fn read(&mut self, place: Place, buffer: &mut [u8]) -> Result<(), ShelfFault>
-        ensures reads { Reads (meaning self.old) place.disk place.row buffer.old result buffer.new (meaning self.new) }
+        ensures reads { Reads (meaning self.old) place buffer.old result buffer.new (meaning self.new) }
         ensures besides { reading self.old place buffer.old result buffer.new self.new };
 
     // Puts `bytes` at the place; a fault may leave any unit there.
     fn write(&mut self, place: Place, bytes: &[u8]) -> Result<(), ShelfFault>
-        ensures writes { Writes (meaning self.old) place.disk place.row bytes.now result (meaning self.new) }
+        ensures writes { Writes (meaning self.old) place bytes.now result (meaning self.new) }
         ensures besides { writing self.old place bytes.now result self.new };
 
     // Puts a fresh disk in the place of this one: its mark is cleared, and it may hold anything.

@@ -12,12 +12,11 @@ const MOST_ROWS: usize = 4096;
 // Disk after disk, and of each disk row after row: the place of disk d and row r is unit d × rows + r of the bytes.
 #[derive(Drop)]
 pub struct MemoryShelf {
-    disks: usize,
-    rows: usize,
+    extent: Extent,
     bytes: Vec<u8>,
-    ghost few: { disks ≤ 32 },
-    ghost short: { rows ≤ 4096 },
-    ghost whole: { disks * rows * 512 ≤ vec_len bytes },
+    ghost few: { extent.disks ≤ 32 },
+    ghost short: { extent.rows ≤ 4096 },
+    ghost whole: { extent.disks * extent.rows * 512 ≤ vec_len bytes },
 }
 
 impl MemoryShelf {
@@ -30,14 +29,13 @@ impl MemoryShelf {
         ensures meaning { kept result ≡ new_memory disks rows bytes.items }
         ensures bytes { result.bytes ≡ bytes }
     {
-        if disks <= MOST_DISKS && rows <= MOST_ROWS && bytes.len() == disks * rows * UNIT {
-            return MemoryShelf { disks, rows, bytes };
-        }
-        MemoryShelf {
-            disks: 0,
-            rows: 0,
-            bytes,
-        }
+        let fits = disks <= MOST_DISKS && rows <= MOST_ROWS && bytes.len() == disks * rows * UNIT;
+        let extent = if fits {
+            Extent { disks, rows }
+        } else {
+            Extent { disks: 0, rows: 0 }
+        };
+        MemoryShelf { extent, bytes }
     }
 
     // The bytes given back, as the shelf holds them now.
@@ -50,18 +48,18 @@ impl MemoryShelf {
     // Where the bytes of a place in range begin.
     #[tactic(auto, using(crate::specs::Places::place_fits))]
     fn start(&self, place: Place) -> usize
-        requires disk { place.disk < self.now.disks }
-        requires row { place.row < self.now.rows }
-        ensures at { result ≡ (place.disk * self.now.rows + place.row) * 512 }
+        requires disk { place.disk < self.now.extent.disks }
+        requires row { place.row < self.now.extent.rows }
+        ensures at { result ≡ (place.disk * self.now.extent.rows + place.row) * 512 }
         ensures fits { result + 512 ≤ vec_len self.now.bytes }
     {
-        (place.disk * self.rows + place.row) * UNIT
+        (place.disk * self.extent.rows + place.row) * UNIT
     }
 
     // Copies out the unit of a place in range.
     fn get(&self, place: Place, unit: &mut [u8])
-        requires { Within self.now.disks self.now.rows place.disk place.row (length unit.old) }
-        ensures { unit.new ≡ (kept self.now).bytes place.disk place.row }
+        requires { Within self.now.extent.disks self.now.extent.rows place (length unit.old) }
+        ensures { unit.new ≡ (kept self.now).bytes place }
     {
         let at = self.start(place);
         unit.copy_from_slice(&self.bytes[at..at + UNIT]);
@@ -69,9 +67,9 @@ impl MemoryShelf {
 
     // Puts another unit at a place in range.
     fn put(&mut self, place: Place, unit: &[u8])
-        requires { Within self.old.disks self.old.rows place.disk place.row (length unit.now) }
-        ensures stored { Stored (kept self.old) place.disk place.row unit.now (kept self.new) }
-        ensures bytes { self.new.bytes.items ≡ with_unit self.old.bytes.items (place.disk * self.old.rows + place.row) unit.now }
+        requires { Within self.old.extent.disks self.old.extent.rows place (length unit.now) }
+        ensures stored { Stored (kept self.old) place unit.now (kept self.new) }
+        ensures bytes { self.new.bytes.items ≡ with_unit self.old.bytes.items (place.disk * self.old.extent.rows + place.row) unit.now }
     {
         let at = self.start(place);
         let held = &mut self.bytes[at..at + UNIT];
@@ -80,24 +78,14 @@ impl MemoryShelf {
 
     // Puts zeros at every place of a disk in range.
     fn clear(&mut self, disk: usize)
-        requires { disk < self.old.disks }
+        requires { disk < self.old.extent.disks }
         ensures renewed { Renewed (kept self.old) disk (kept self.new) }
         ensures zeroed { Zeroed (kept self.new) disk }
-        ensures bytes { self.new.bytes.items ≡ with_zeros self.old.bytes.items (disk * self.old.rows) self.old.rows }
+        ensures bytes { self.new.bytes.items ≡ with_zeros self.old.bytes.items (disk * self.old.extent.rows) self.old.extent.rows }
     {
-        let at = disk * self.rows * UNIT;
-        let held = &mut self.bytes[at..at + self.rows * UNIT];
+        let at = disk * self.extent.rows * UNIT;
+        let held = &mut self.bytes[at..at + self.extent.rows * UNIT];
         held.fill(0);
-    }
-
-    fn extent(&self) -> Extent
-        ensures disks { result.disks ≡ self.now.disks }
-        ensures rows { result.rows ≡ self.now.rows }
-    {
-        Extent {
-            disks: self.disks,
-            rows: self.rows,
-        }
     }
 }
 
@@ -115,33 +103,33 @@ impl Shelf for MemoryShelf {
     ghost renewing = { Renewing };
 
     ghost lawful = { λ s.
-        let whole : s.disks * s.rows * 512 ≤ length s.bytes.items = omega arith in
-        record { few = s.few; units = place_unit s.disks s.rows s.bytes.items whole } };
+        let whole : s.extent.disks * s.extent.rows * 512 ≤ length s.bytes.items = omega arith in
+        record { few = s.few; units = place_unit s.extent.disks s.extent.rows s.bytes.items whole } };
 
     fn read(&mut self, place: Place, buffer: &mut [u8]) -> Result<(), ShelfFault> {
-        self.extent().check(place, buffer.len())?;
+        self.extent.check(place, buffer.len())?;
         self.get(place, buffer);
         Ok(())
     }
 
     fn write(&mut self, place: Place, bytes: &[u8]) -> Result<(), ShelfFault> {
-        self.extent().check(place, bytes.len())?;
+        self.extent.check(place, bytes.len())?;
         self.put(place, bytes);
         Ok(())
     }
 
     fn renew(&mut self, disk: usize) -> Result<(), ShelfFault> {
-        self.extent().check_disk(disk)?;
+        self.extent.check_disk(disk)?;
         self.clear(disk);
         Ok(())
     }
 
     fn disks(&self) -> usize {
-        self.disks
+        self.extent.disks
     }
 
     fn rows(&self) -> usize {
-        self.rows
+        self.extent.rows
     }
 
     fn marked(&self, _disk: usize) -> bool {

@@ -49,7 +49,8 @@ impl TryFrom<usize> for Cause {
     }
 }
 
-// The disk's `at`th read or write faults with this cause.
+// The disk's `at`th read or write faults with this cause. By default a line is for access 0, which no disk has: it fills the room that
+// a script has left.
 #[derive(Clone, Copy, Default)]
 pub struct FaultLine {
     pub disk: usize,

@@ -6,4 +6,4 @@ use Rattle.shelf.proofs.memory.MemoryShelf.put.Goals as goal
 pub returns-clause-stored : goal.returns-clause-stored
 returns-clause-stored c =
     let s = c.args.self.now in
-    stored s.disks s.rows (vec_items s.bytes) c.args.unit.now _ c.args.place.disk c.args.place.row (omega arith) c.requires (grind (arith, common_steps))
+    stored s.extent.disks s.extent.rows (vec_items s.bytes) c.args.unit.now _ c.args.place (omega arith) c.requires (grind (arith, common_steps))
