@@ -35,7 +35,7 @@ pub trait Layout {
     fn stripes(&self) -> usize
         ensures { result ≡ (shape self.now).stripes };
 
-    // How many members a stripe has, its check among them.
+    // How many members a stripe has, its check among them. Two layouts answer 2, and one its disks: no body here fits both.
     fn width(&self) -> usize
         ensures { result ≡ (shape self.now).width };
 
