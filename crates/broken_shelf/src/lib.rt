@@ -9,7 +9,7 @@ ghost use Rattle.std.proofs.Common.{rules};
 
 use denial::fault::ShelfFault;
 use shelf::extent::Extent;
-use shelf::{MOST_DISKS, Place, Shelf};
+use shelf::{MOST_DISKS, Place, Shelf, fault_at};
 use units::set::Set;
 
 // 32 disks of these rows. Every read, write and renewal in range faults with this code and marks its disk.
@@ -34,6 +34,7 @@ impl BrokenShelf {
         }
     }
 
+    // Not a method of the trait: the calls of a shelf that ask for it would be in a cycle with it.
     fn extent(&self) -> Extent
         ensures disks { result.disks ≡ 32 }
         ensures rows { result.rows ≡ self.now.rows }
@@ -51,11 +52,7 @@ impl BrokenShelf {
         ensures others { self.new ≡ record self.old { marks = self.new.marks } }
     {
         self.marks.insert(place.disk);
-        ShelfFault {
-            code: self.code.clamp(2, 8),
-            disk: place.disk,
-            row: place.row,
-        }
+        fault_at(self.code.clamp(2, 8), place)
     }
 
     // What a read and a write of `len` bytes come to: in range a fault.

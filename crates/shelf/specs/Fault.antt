@@ -1,16 +1,11 @@
 -- The fault shelf: a shelf over another, whose accesses fault by a script. Assumes nothing.
 use Rattle.std.specs.Prelude.{◌≡◌, ℕ, Bool, not, ◌&&◌, ◌||◌, List, length, Err, MatchOption, MatchResult, ◌==◌}
-use Rattle.denial.specs.declared.fault.ShelfFault.{ShelfFault}
 use Rattle.shelf.specs.declared.fault.FaultShelf.{FaultShelf}
 use Rattle.shelf.specs.declared.script.Cause.{Cause}
-use Rattle.shelf.specs.Meaning.{Answer, Meaning, Reads, Renews, Within, Writes}
+use Rattle.shelf.specs.Meaning.{Answer, fault_at, Meaning, Reads, Renews, Within, Writes}
 use Rattle.units.specs.Sets.{has}
 use Rattle.units.specs.declared.place.Place.{Place}
 use Rattle.shelf.specs.Script.{BringsBack, code, Counts, due}
-
--- the fault of this cause at a place
-abbrev pub fault_at : Place → Cause → ShelfFault
-fault_at p cause = record { code = code cause; disk = p.disk; row = p.row }
 
 -- the marks of a shelf and those of a set besides
 abbrev pub with_marks : ℕ → (ℕ → Bool) → ℕ → Bool
@@ -32,7 +27,7 @@ module _ {S : Type 0} (meant : S → Meaning) where
 
   -- the fault of this cause is given: the shelf below is not asked, and the disk is marked here
   pub record FaultsHere (s : FaultShelf S) (p : Place) (answer : Answer) (t : FaultShelf S) (cause : Cause) : Type 0 where
-    pub told : answer ≡ Err (fault_at p cause)
+    pub told : answer ≡ Err (fault_at (code cause) p)
     pub below : t.below ≡ s.below
     pub marks : (e : ℕ) → has t.marks e ≡ (has s.marks e || e == p.disk)
 

@@ -32,9 +32,13 @@ first_of d = record { disk = d; row = 0 }
 abbrev pub Answer : Type 0
 Answer = Result (Unit {0}) ShelfFault
 
+-- the fault with this code at a place
+abbrev pub fault_at : ℕ → Place → ShelfFault
+fault_at c p = record { code = c; disk = p.disk; row = p.row }
+
 -- the answer out of range: code 1
 abbrev pub out_of_range : Place → Answer
-out_of_range p = Err (record { code = 1; disk = p.disk; row = p.row })
+out_of_range p = Err (fault_at 1 p)
 
 -- a fault of the disk: a code from 2 to 8, and the disk and the row that were asked for
 pub record DiskFault (p : Place) (f : ShelfFault) : Type 0 where

@@ -1,9 +1,9 @@
 // How far a shelf reaches, and the answer to what lies beyond.
-ghost use Rattle.std.specs.Prelude.{◌≡◌, ◌<◌, ◌↔◌, IsOk, Err, OnErr};
+ghost use Rattle.std.specs.Prelude.{◌≡◌, ◌<◌, ◌↔◌, IsOk, OnErr};
 ghost use Rattle.shelf.specs.Meaning.{first_of, out_of_range, Within};
 
+use crate::{Place, fault_at};
 use denial::fault::ShelfFault;
-use units::place::Place;
 use units::unit::UNIT;
 
 // How many disks a shelf has, and how many rows each of them.
@@ -22,7 +22,7 @@ impl Extent {
         if place.disk < self.disks && place.row < self.rows && len == UNIT {
             Ok(())
         } else {
-            Err(out_of_range(place))
+            Err(fault_at(1, place))
         }
     }
 
@@ -34,18 +34,7 @@ impl Extent {
         if disk < self.disks {
             Ok(())
         } else {
-            Err(out_of_range(Place { disk, row: 0 }))
+            Err(fault_at(1, Place { disk, row: 0 }))
         }
-    }
-}
-
-// The fault of a place that lies beyond.
-fn out_of_range(place: Place) -> ShelfFault
-    ensures { Err result ≡ out_of_range place }
-{
-    ShelfFault {
-        code: 1,
-        disk: place.disk,
-        row: place.row,
     }
 }

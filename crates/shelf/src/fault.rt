@@ -1,14 +1,14 @@
 // A shelf over another, whose reads and writes fault by a script.
 ghost use Rattle.std.specs.Prelude.{◌≡◌, ℕ, Ok, OnOk, ◌&&◌, ◌||◌, ◌==◌, nat_lt};
-ghost use Rattle.shelf.specs.Fault.{ByScript, fault_at, over, Reached, Reading, Renewing, Writing};
-ghost use Rattle.shelf.specs.Meaning.{out_of_range};
-ghost use Rattle.shelf.specs.Script.{Adds, count, Fresh};
+ghost use Rattle.shelf.specs.Fault.{ByScript, over, Reached, Reading, Renewing, Writing};
+ghost use Rattle.shelf.specs.Meaning.{fault_at, out_of_range};
+ghost use Rattle.shelf.specs.Script.{Adds, code, count, Fresh};
 ghost use Rattle.units.specs.Sets.{has};
 ghost use Rattle.std.proofs.Common.{rules};
 
 use crate::extent::Extent;
 use crate::script::{Cause, FaultScript};
-use crate::{Place, Shelf};
+use crate::{Place, Shelf, fault_at};
 use denial::Denial;
 use denial::fault::ShelfFault;
 use units::set::Set;
@@ -58,6 +58,7 @@ impl<S: Shelf> FaultShelf<S> {
         (self.below, self.script)
     }
 
+    // Not a method of the trait: the calls of a shelf that ask for it would be in a cycle with it.
     fn extent(&self) -> Extent
         ensures disks { result.disks ≡ (S.meaning self.now.below).disks }
         ensures rows { result.rows ≡ (S.meaning self.now.below).rows }
@@ -70,16 +71,12 @@ impl<S: Shelf> FaultShelf<S> {
 
     // Marks the disk here, and gives the fault of this cause.
     fn fail(&mut self, place: Place, cause: Cause) -> ShelfFault
-        ensures fault { result ≡ fault_at place cause }
+        ensures fault { result ≡ fault_at (code cause) place }
         ensures marks { (d : ℕ) → has self.new.marks d ≡ (has self.old.marks d || (d == place.disk && nat_lt place.disk 32)) }
         ensures others { self.new ≡ record self.old { marks = self.new.marks } }
     {
         self.marks.insert(place.disk);
-        ShelfFault {
-            code: cause.code(),
-            disk: place.disk,
-            row: place.row,
-        }
+        fault_at(cause.code(), place)
     }
 
     // What a read and a write of `len` bytes come to before the shelf below is asked: a fault where it is not to be asked.

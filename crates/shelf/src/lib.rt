@@ -3,7 +3,7 @@
 
 ghost use Rattle.std.specs.Prelude.{◌≡◌, ℕ, List};
 ghost use Rattle.shelf.specs.Changes.{ExactChanges};
-ghost use Rattle.shelf.specs.Meaning.{Answer, Lawful, marked, Meaning, Reads, Renews, Writes};
+ghost use Rattle.shelf.specs.Meaning.{Answer, fault_at, Lawful, marked, Meaning, Reads, Renews, Writes};
 ghost use Rattle.shelf.specs.Runs.{Remembers};
 ghost use Rattle.units.specs.declared.place.Place.{Place};
 
@@ -17,6 +17,17 @@ pub mod script;
 
 // The most disks that a shelf may have.
 pub const MOST_DISKS: usize = 32;
+
+// The fault with this code at a place.
+pub fn fault_at(code: u8, place: Place) -> ShelfFault
+    ensures { result ≡ fault_at code place }
+{
+    ShelfFault {
+        code,
+        disk: place.disk,
+        row: place.row,
+    }
+}
 
 // Disks of rows of units of 512 bytes, and a mark for each disk. A call may fault whenever it likes, but only as its relation
 // says; no call asks anything of its caller.
