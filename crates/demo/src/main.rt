@@ -15,16 +15,13 @@ mod story;
 mod volume;
 
 fn main(rt: HostRuntime) -> anyhow::Result<()> {
-    run(&rt)
-}
-
-fn run(rt: &HostRuntime) -> anyhow::Result<()> {
+    let heap = rt.alloc();
     println!(rt; "What a disk array does for a text when a disk is lost.")?;
     println!(rt)?;
     rt.println(INTRODUCTION)?;
-    story::tell(rt, "RAID-5, left-symmetric", Raid5::new(5, 4)?, 2)?;
-    story::tell(rt, "Chained declustering", Chain::new(4, 5)?, 3)?;
-    story::tell(rt, "Mirrored pairs", Pair::new(6, 2)?, 2)?;
+    story::tell(&rt, heap, "RAID-5, left-symmetric", Raid5::new(5, 4)?, 2)?;
+    story::tell(&rt, heap, "Chained declustering", Chain::new(4, 5)?, 3)?;
+    story::tell(&rt, heap, "Mirrored pairs", Pair::new(6, 2)?, 2)?;
     println!(rt)?;
     println!(rt; "Every unit of every lost disk came back.")?;
     Ok(())

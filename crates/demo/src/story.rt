@@ -1,11 +1,11 @@
 // One layout's story: laid out, a disk lost, rebuilt, compared.
 use crate::volume::Volume;
-use anyhow::anyhow;
+use anyhow::ensure;
 use layout::lookup::unit_member;
 use layout::{Layout, Member, Place};
 use report::{Label, Table};
 use std::alloc::{AllocError, Global};
-use std::io;
+use std::{fmt, io};
 use units::unit::{UNIT, Unit};
 
 const TEXT: &str =
@@ -17,139 +17,154 @@ An array is only as good as the units that nobody looks at. ";
 
 // Tells the story of a layout that loses this disk.
 pub fn tell<L: Layout + Copy + Drop>(
-    rt: &HostRuntime,
+    rt: &impl Print,
+    heap: Global,
     name: &str,
     layout: L,
     disk: usize,
 ) -> anyhow::Result<()> {
-    let table = Table { layout: &layout };
-    println!(rt; "\n{name}: {table}")?;
-    let original = laid_out(rt.alloc(), layout)?;
-    let mut volume = laid_out(rt.alloc(), layout)?;
+    println!(rt; "\n{name}: {}", Table { layout: &layout })?;
+    let original = laid_out(heap, layout)?;
+    let mut volume = laid_out(heap, layout)?;
     volume.lose(disk);
     println!(rt; "Disk {disk} is lost, and an empty one takes its place.")?;
-    compare(rt, &original, &volume, disk)?;
+    println!(rt; "{}", Kept::of(&original, &volume, disk))?;
     println!(rt;
         "Each unit that stood on it is rebuilt as the exclusive or (+) of the rest of its stripe."
     )?;
     rebuild(rt, &mut volume, disk)?;
-    let whole = compare(rt, &original, &volume, disk)?;
-    if !whole {
-        return Err(anyhow!("a rebuilt unit is not what was laid out"));
-    }
+    let kept = Kept::of(&original, &volume, disk);
+    println!(rt; "{kept}")?;
+    ensure!(kept.is_whole(), "a rebuilt unit is not what was laid out");
     Ok(())
 }
 
-// Byte i of data unit u: the text, over and over.
-fn text_unit(u: usize) -> Unit {
-    let text = TEXT.as_bytes();
+// The data unit of this number: the text is said over and over.
+fn text_unit(number: usize) -> Unit {
     let mut unit = [0; UNIT];
-    for i in 0..UNIT {
-        let at = u.saturating_mul(UNIT).saturating_add(i) % text.len();
-        unit[i] = text[at];
+    let letters = TEXT.bytes().cycle().skip(number.saturating_mul(UNIT));
+    for (byte, letter) in unit.iter_mut().zip(letters) {
+        *byte = letter;
     }
     unit
+}
+
+// The check of a stripe is its last member.
+fn check_of<L: Layout>(layout: &L, stripe: usize) -> Member {
+    Member {
+        stripe,
+        index: layout.width().saturating_sub(1),
+    }
 }
 
 // A volume that is full of the text, with the check of each stripe.
 fn laid_out<L: Layout + Copy + Drop>(heap: Global, layout: L) -> Result<Volume<L>, AllocError> {
     let mut volume = Volume::new(heap, layout)?;
-    for u in 0..layout.data_units() {
-        if let Some(member) = unit_member(&layout, u) {
-            volume.write(member, text_unit(u));
+    for number in 0..layout.data_units() {
+        if let Some(member) = unit_member(&layout, number) {
+            volume.write(member, text_unit(number));
         }
     }
-    let check = layout.width().saturating_sub(1);
     for stripe in 0..layout.stripes() {
-        let member = Member {
-            stripe,
-            index: check,
-        };
-        volume.write(member, volume.sum_of_others(member));
+        let check = check_of(&layout, stripe);
+        volume.write(check, volume.sum_of_others(check));
     }
     Ok(volume)
 }
 
-// Says how many units on the disk are as they were laid out, and answers whether all are.
-fn compare<L: Layout + Copy + Drop>(
-    rt: &HostRuntime,
-    original: &Volume<L>,
-    volume: &Volume<L>,
+// How many units on a disk are as they were laid out, of how many.
+#[derive(Clone, Copy)]
+struct Kept {
     disk: usize,
-) -> io::Result<bool> {
-    let layout = volume.layout();
-    let mut all = 0usize;
-    let mut right = 0usize;
-    for row in 0..layout.rows() {
-        if let Some(member) = layout.owner(Place { disk, row }) {
-            all = all.saturating_add(1);
-            if volume.read(member) == original.read(member) {
-                right = right.saturating_add(1);
-            }
-        }
-    }
-    println!(rt; "{right} of the {all} units on disk {disk} are what was laid out.")?;
-    Ok(right == all)
+    right: usize,
+    all: usize,
 }
 
-// Rebuilds the disk row by row.
+impl Kept {
+    fn of<L: Layout + Copy + Drop>(original: &Volume<L>, volume: &Volume<L>, disk: usize) -> Kept {
+        let layout = volume.layout();
+        let mut kept = Kept {
+            disk,
+            right: 0,
+            all: 0,
+        };
+        for member in (0..layout.rows()).filter_map(|row| layout.owner(Place { disk, row })) {
+            kept.all = kept.all.saturating_add(1);
+            if volume.read(member) == original.read(member) {
+                kept.right = kept.right.saturating_add(1);
+            }
+        }
+        kept
+    }
+
+    fn is_whole(self) -> bool {
+        self.right == self.all
+    }
+}
+
+impl fmt::Display for Kept {
+    fn fmt<W: fmt::Write>(&self, f: &mut fmt::Formatter<W>) -> fmt::Result {
+        write!(
+            f,
+            "{} of the {} units on disk {} are what was laid out.",
+            self.right, self.all, self.disk
+        )
+    }
+}
+
+// Rebuilds the disk row by row; of a data unit it says how its text begins.
 fn rebuild<L: Layout + Copy + Drop>(
-    rt: &HostRuntime,
+    rt: &impl Print,
     volume: &mut Volume<L>,
     disk: usize,
 ) -> io::Result<()> {
     let layout = volume.layout();
     for row in 0..layout.rows() {
-        match layout.owner(Place { disk, row }) {
-            Some(member) => {
-                let unit = volume.sum_of_others(member);
-                volume.write(member, unit);
-                tell_sum(rt, &layout, row, member)?;
-                tell_text(rt, &layout, member, &unit)?;
-            }
-            None => println!(rt; "  row {row}: nobody owns this place")?,
+        let Some(lost) = layout.owner(Place { disk, row }) else {
+            println!(rt; "  row {row}: nobody owns this place")?;
+            continue;
+        };
+        let unit = volume.sum_of_others(lost);
+        volume.write(lost, unit);
+        let sum = Sum {
+            layout: &layout,
+            lost,
+        };
+        if lost == check_of(&layout, lost.stripe) {
+            println!(rt; "  row {row}: {sum}, a check")?;
+        } else {
+            println!(rt;
+                "  row {row}: {sum}, which reads \"{}..\"",
+                beginning(&unit).escape_ascii()
+            )?;
         }
     }
     Ok(())
 }
 
-// Says of which units a lost unit is the sum.
-fn tell_sum<L: Layout>(rt: &HostRuntime, layout: &L, row: usize, lost: Member) -> io::Result<()> {
-    let width = layout.width();
-    let label = Label {
-        member: lost,
-        width,
-    };
-    print!(rt; "  row {row}: {label} =")?;
-    let first = if lost.index == 0 { 1 } else { 0 };
-    for index in 0..width {
-        if index != lost.index {
-            let sign = if index == first { "" } else { " +" };
-            let member = Member {
-                stripe: lost.stripe,
-                index,
-            };
-            let label = Label { member, width };
-            print!(rt; "{sign} {label}")?;
-        }
-    }
-    Ok(())
+// The first words of a unit's text.
+fn beginning(unit: &Unit) -> &[u8] {
+    &unit[..40]
 }
 
-// Ends the line, for a data unit with the first words of its text.
-fn tell_text<L: Layout>(
-    rt: &HostRuntime,
-    layout: &L,
-    member: Member,
-    unit: &Unit,
-) -> io::Result<()> {
-    if member.index == layout.width().saturating_sub(1) {
-        return println!(rt; ", a check");
+// A lost member as the sum of the others of its stripe.
+#[derive(Drop)]
+struct Sum<'a, L> {
+    layout: &'a L,
+    lost: Member,
+}
+
+impl<L: Layout> fmt::Display for Sum<'_, L> {
+    fn fmt<W: fmt::Write>(&self, f: &mut fmt::Formatter<W>) -> fmt::Result {
+        let width = self.layout.width();
+        let member = self.lost;
+        let others = (0..width)
+            .filter(|&index| index != member.index)
+            .map(|index| Label {
+                member: Member { index, ..member },
+                width,
+            });
+        write!(f, "{} = ", Label { member, width })?;
+        f.write_joined(others, " + ")
     }
-    print!(rt; ", which reads \"")?;
-    for i in 0..40usize {
-        let letter = char::from(unit[i]);
-        print!(rt; "{letter}")?;
-    }
-    println!(rt; "..\"")
 }

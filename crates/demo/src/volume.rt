@@ -30,16 +30,10 @@ impl<L: Layout + Copy + Drop> Volume<L> {
             .saturating_add(place.row)
     }
 
-    // The unit of a member; zeros out of range.
-    pub fn read(&self, member: Member) -> Unit {
-        match self.layout.place(member) {
-            Some(place) => self
-                .units
-                .get(self.number(place))
-                .copied()
-                .unwrap_or([0; UNIT]),
-            None => [0; UNIT],
-        }
+    // The unit of a member, or none out of range.
+    pub fn read(&self, member: Member) -> Option<&Unit> {
+        let place = self.layout.place(member)?;
+        self.units.get(self.number(place))
     }
 
     fn put(&mut self, place: Place, unit: Unit) {
@@ -58,13 +52,9 @@ impl<L: Layout + Copy + Drop> Volume<L> {
     // The sum of all other members of the stripe.
     pub fn sum_of_others(&self, member: Member) -> Unit {
         let mut sum = [0; UNIT];
-        for index in 0..self.layout.width() {
-            if index != member.index {
-                let other = Member {
-                    stripe: member.stripe,
-                    index,
-                };
-                unit::add(&mut sum, &self.read(other));
+        for index in (0..self.layout.width()).filter(|&index| index != member.index) {
+            if let Some(unit) = self.read(Member { index, ..member }) {
+                unit::add(&mut sum, unit);
             }
         }
         sum

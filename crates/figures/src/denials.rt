@@ -13,7 +13,7 @@ fn example_fault() -> RequestFault {
     RequestFault::from(NodeFault::from(shelf).at(3, Phase::Prepare)).on(4)
 }
 
-pub fn list(rt: &HostRuntime) -> anyhow::Result<()> {
+pub fn list(rt: &impl Print) -> anyhow::Result<()> {
     println!(rt; "\nThe denials.")?;
     let denials = [
         Denial::NotStarted,

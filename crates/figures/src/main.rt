@@ -6,13 +6,9 @@ mod denials;
 mod placing;
 
 fn main(rt: HostRuntime) -> anyhow::Result<()> {
-    run(&rt)
-}
-
-fn run(rt: &HostRuntime) -> anyhow::Result<()> {
-    placing::tables(rt)?;
-    placing::round_trips(rt)?;
-    placing::edges(rt)?;
-    placing::out_of_range(rt)?;
-    denials::list(rt)
+    placing::tables(&rt)?;
+    placing::round_trips(&rt)?;
+    placing::edges(&rt)?;
+    placing::out_of_range(&rt)?;
+    denials::list(&rt)
 }

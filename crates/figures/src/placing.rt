@@ -7,58 +7,77 @@ use layout::{Layout, Member, Place};
 use report::Table;
 use std::{fmt, io};
 
-pub fn tables(rt: &HostRuntime) -> anyhow::Result<()> {
+// A layout with the name that it is printed under.
+trait Named: Layout {
+    const NAME: &'static str;
+}
+
+impl Named for Pair {
+    const NAME: &'static str = "pair";
+}
+
+impl Named for Raid5 {
+    const NAME: &'static str = "raid5";
+}
+
+impl Named for Chain {
+    const NAME: &'static str = "chain";
+}
+
+pub fn tables(rt: &impl Print) -> anyhow::Result<()> {
     println!(rt;
         "Placing tables. D is a data unit, C the check of a stripe, - a place that nobody owns."
     )?;
-    table(rt, "pair", &Pair::new(2, 3)?)?;
-    table(rt, "pair", &Pair::new(6, 3)?)?;
-    table(rt, "raid5", &Raid5::new(3, 4)?)?;
-    table(rt, "raid5", &Raid5::new(5, 7)?)?;
-    table(rt, "raid5", &Raid5::new(8, 9)?)?;
-    table(rt, "chain", &Chain::new(2, 2)?)?;
-    table(rt, "chain", &Chain::new(4, 6)?)?;
-    table(rt, "chain", &Chain::new(3, 5)?)?;
+    table(rt, &Pair::new(2, 3)?)?;
+    table(rt, &Pair::new(6, 3)?)?;
+    table(rt, &Raid5::new(3, 4)?)?;
+    table(rt, &Raid5::new(5, 7)?)?;
+    table(rt, &Raid5::new(8, 9)?)?;
+    table(rt, &Chain::new(2, 2)?)?;
+    table(rt, &Chain::new(4, 6)?)?;
+    table(rt, &Chain::new(3, 5)?)?;
     Ok(())
 }
 
-fn table<L: Layout>(rt: &HostRuntime, name: &str, layout: &L) -> io::Result<()> {
-    let table = Table { layout };
-    println!(rt; "\n{name}: {table}")
+fn table<L: Named>(rt: &impl Print, layout: &L) -> io::Result<()> {
+    println!(rt; "\n{}: {}", L::NAME, Table { layout })
 }
 
-pub fn round_trips(rt: &HostRuntime) -> anyhow::Result<()> {
+pub fn round_trips(rt: &impl Print) -> anyhow::Result<()> {
     println!(rt;
         "\nThere and back: owner(place(stripe, index)) over all members, place(owner(disk, row)) over all places."
     )?;
-    round_trip(rt, "pair", &Pair::new(16, 4096)?)?;
-    round_trip(rt, "raid5", &Raid5::new(8, 4096)?)?;
-    round_trip(rt, "raid5", &Raid5::new(7, 4096)?)?;
-    round_trip(rt, "chain", &Chain::new(16, 4096)?)?;
-    round_trip(rt, "chain", &Chain::new(15, 4095)?)?;
+    round_trip(rt, &Pair::new(16, 4096)?)?;
+    round_trip(rt, &Raid5::new(8, 4096)?)?;
+    round_trip(rt, &Raid5::new(7, 4096)?)?;
+    round_trip(rt, &Chain::new(16, 4096)?)?;
+    round_trip(rt, &Chain::new(15, 4095)?)?;
     Ok(())
 }
 
-fn round_trip<L: Layout>(rt: &HostRuntime, name: &str, layout: &L) -> io::Result<()> {
-    let disks = layout.disks();
-    let rows = layout.rows();
-    let mut back = Tally::new();
-    for stripe in 0..layout.stripes() {
-        members_back(layout, stripe, &mut back);
-    }
-    let mut there = Tally::new();
-    for disk in 0..disks {
-        places_back(layout, disk, &mut there);
-    }
-    println!(rt; "{name} of {disks} disks and {rows} rows")?;
-    let Tally { right, wrong, none } = back;
-    println!(rt; "  members: {right} come back, {wrong} go astray, {none} have no place")?;
-    let Tally { right, wrong, none } = there;
-    println!(rt; "  places: {right} come back, {wrong} go astray, {none} have no owner")
+fn round_trip<L: Named>(rt: &impl Print, layout: &L) -> io::Result<()> {
+    let members = Tally::of(layout.stripes(), layout.width(), |stripe, index| {
+        let member = Member { stripe, index };
+        let place = layout.place(member)?;
+        Some(layout.owner(place) == Some(member))
+    });
+    let places = Tally::of(layout.disks(), layout.rows(), |disk, row| {
+        let place = Place { disk, row };
+        let member = layout.owner(place)?;
+        Some(layout.place(member) == Some(place))
+    });
+    println!(rt;
+        "{} of {} disks and {} rows",
+        L::NAME,
+        layout.disks(),
+        layout.rows()
+    )?;
+    println!(rt; "  members: {members} have no place")?;
+    println!(rt; "  places: {places} have no owner")
 }
 
 // How many questions were answered right, wrong and with none.
-#[derive(Clone, Copy)]
+#[derive(Clone, Copy, Default)]
 struct Tally {
     right: usize,
     wrong: usize,
@@ -66,48 +85,45 @@ struct Tally {
 }
 
 impl Tally {
-    fn new() -> Tally {
-        Tally {
-            right: 0,
-            wrong: 0,
-            none: 0,
+    // Of all pairs of a number below `firsts` and one below `seconds`: whether each comes back right, or none.
+    fn of<F: Fn(usize, usize) -> Option<bool>>(
+        firsts: usize,
+        seconds: usize,
+        comes_back: F,
+    ) -> Tally
+        requires { F.IsAlwaysCallable comes_back }
+    {
+        let mut tally = Tally::default();
+        for first in 0..firsts {
+            for second in 0..seconds {
+                tally.count(comes_back(first, second));
+            }
         }
+        tally
     }
 
-    fn count(&mut self, right: bool) {
-        if right {
-            self.right = self.right.saturating_add(1);
-        } else {
-            self.wrong = self.wrong.saturating_add(1);
-        }
-    }
-
-    fn count_none(&mut self) {
-        self.none = self.none.saturating_add(1);
+    fn count(&mut self, answer: Option<bool>) {
+        let of_kind = match answer {
+            Some(true) => &mut self.right,
+            Some(false) => &mut self.wrong,
+            None => &mut self.none,
+        };
+        *of_kind = of_kind.saturating_add(1);
     }
 }
 
-fn members_back<L: Layout>(layout: &L, stripe: usize, tally: &mut Tally) {
-    for index in 0..layout.width() {
-        let member = Member { stripe, index };
-        match layout.place(member) {
-            Some(place) => tally.count(layout.owner(place) == Some(member)),
-            None => tally.count_none(),
-        }
+// It ends in the number of those with none; what they have none of, the line says.
+impl fmt::Display for Tally {
+    fn fmt<W: fmt::Write>(&self, f: &mut fmt::Formatter<W>) -> fmt::Result {
+        write!(
+            f,
+            "{} come back, {} go astray, {}",
+            self.right, self.wrong, self.none
+        )
     }
 }
 
-fn places_back<L: Layout>(layout: &L, disk: usize, tally: &mut Tally) {
-    for row in 0..layout.rows() {
-        let place = Place { disk, row };
-        match layout.owner(place) {
-            Some(member) => tally.count(layout.place(member) == Some(place)),
-            None => tally.count_none(),
-        }
-    }
-}
-
-// Numbers at the edges of the tables.
+// Numbers at the edges of the tables: disks and rows.
 const EDGES: [(usize, usize); 18] = [
     (0, 1),
     (1, 1),
@@ -129,52 +145,50 @@ const EDGES: [(usize, usize); 18] = [
     (2, 18446744073709551615),
 ];
 
-pub fn edges(rt: &HostRuntime) -> anyhow::Result<()> {
+pub fn edges(rt: &impl Print) -> anyhow::Result<()> {
     println!(rt;
         "\nWhich numbers each layout takes: its data units, or the number of the denial."
     )?;
     println!(rt; "  disks x rows: pair, raid5, chain")?;
     for (disks, rows) in EDGES {
-        let pair = taken(Pair::new(disks, rows));
-        let raid5 = taken(Raid5::new(disks, rows));
-        let chain = taken(Chain::new(disks, rows));
-        println!(rt; "  {disks} x {rows}: {pair}, {raid5}, {chain}")?;
+        println!(rt;
+            "  {disks} x {rows}: {}, {}, {}",
+            Taken::of(Pair::new(disks, rows)),
+            Taken::of(Raid5::new(disks, rows)),
+            Taken::of(Chain::new(disks, rows))
+        )?;
     }
     Ok(())
 }
 
-// The data units of a layout that was made, or the number of the denial.
+// The data units of a layout that was made, or why it was not.
 #[derive(Clone, Copy)]
-enum Answer {
-    Units(usize),
-    Denied(u8),
+struct Taken(Result<usize, Denial>);
+
+impl Taken {
+    fn of<L: Layout + Drop>(made: Result<L, Denial>) -> Taken {
+        Taken(made.map(|layout| layout.data_units()))
+    }
 }
 
-impl fmt::Display for Answer {
+impl fmt::Display for Taken {
     fn fmt<W: fmt::Write>(&self, f: &mut fmt::Formatter<W>) -> fmt::Result {
-        match self {
-            Answer::Units(units) => write!(f, "{units} units"),
-            Answer::Denied(number) => write!(f, "denial {number}"),
+        match self.0 {
+            Ok(units) => write!(f, "{units} units"),
+            Err(denial) => write!(f, "denial {}", denial.number()),
         }
     }
 }
 
-fn taken<L: Layout + Drop>(made: Result<L, Denial>) -> Answer {
-    match made {
-        Ok(layout) => Answer::Units(layout.data_units()),
-        Err(denial) => Answer::Denied(denial.number()),
-    }
-}
-
-pub fn out_of_range(rt: &HostRuntime) -> anyhow::Result<()> {
+pub fn out_of_range(rt: &impl Print) -> anyhow::Result<()> {
     println!(rt; "\nQuestions out of range, each answered by none.")?;
-    strays(rt, "pair", &Pair::new(6, 3)?)?;
-    strays(rt, "raid5", &Raid5::new(5, 7)?)?;
-    strays(rt, "chain", &Chain::new(3, 5)?)?;
+    strays(rt, &Pair::new(6, 3)?)?;
+    strays(rt, &Raid5::new(5, 7)?)?;
+    strays(rt, &Chain::new(3, 5)?)?;
     Ok(())
 }
 
-fn strays<L: Layout>(rt: &HostRuntime, name: &str, layout: &L) -> io::Result<()> {
+fn strays<L: Named>(rt: &impl Print, layout: &L) -> io::Result<()> {
     let far = usize::MAX;
     let places = [
         (layout.stripes(), 0),
@@ -192,5 +206,5 @@ fn strays<L: Layout>(rt: &HostRuntime, name: &str, layout: &L) -> io::Result<()>
         (far, far),
     ]
     .map(|(disk, row)| layout.owner(Place { disk, row }));
-    println!(rt; "  {name}: places {places:?}, owners {owners:?}")
+    println!(rt; "  {}: places {places:?}, owners {owners:?}", L::NAME)
 }

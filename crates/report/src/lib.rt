@@ -11,35 +11,19 @@ pub struct Label {
     pub width: usize,
 }
 
-impl Label {
-    fn data(self) -> usize {
-        self.width.saturating_sub(1)
-    }
-
-    fn letter(self) -> char {
-        if self.member.index == self.data() {
-            'C'
-        } else {
-            'D'
-        }
-    }
-
-    fn number(self) -> usize {
-        let stripe = self.member.stripe;
-        if self.member.index == self.data() {
-            return stripe;
-        }
-        stripe
-            .saturating_mul(self.data())
-            .saturating_add(self.member.index)
-    }
-}
-
+// A label stands at the right end of the room that the format gives it.
 impl fmt::Display for Label {
     fn fmt<W: fmt::Write>(&self, f: &mut fmt::Formatter<W>) -> fmt::Result {
-        let letter = self.letter();
-        let number = self.number();
-        write!(f, "{letter}{number}")
+        let Member { stripe, index } = self.member;
+        let data = self.width.saturating_sub(1);
+        let (letter, number) = if index == data {
+            ('C', stripe)
+        } else {
+            ('D', stripe.saturating_mul(data).saturating_add(index))
+        };
+        let digits = number.checked_ilog10().unwrap_or(0) as usize + 1;
+        let room = f.width().unwrap_or(0).saturating_sub(digits);
+        write!(f, "{letter:>room$}{number}")
     }
 }
 
@@ -53,12 +37,12 @@ impl<L: Layout> fmt::Display for Table<'_, L> {
     fn fmt<W: fmt::Write>(&self, f: &mut fmt::Formatter<W>) -> fmt::Result {
         let disks = self.layout.disks();
         let rows = self.layout.rows();
-        let stripes = self.layout.stripes();
         let width = self.layout.width();
-        let units = self.layout.data_units();
         write!(
             f,
-            "{disks} disks of {rows} rows, {stripes} stripes of {width} members, {units} data units\n  row"
+            "{disks} disks of {rows} rows, {} stripes of {width} members, {} data units\n  row",
+            self.layout.stripes(),
+            self.layout.data_units()
         )?;
         for disk in 0..disks {
             let room = if disk < 10 { 6usize } else { 5 };
@@ -67,25 +51,12 @@ impl<L: Layout> fmt::Display for Table<'_, L> {
         for row in 0..rows {
             write!(f, "\n {row:>4}")?;
             for disk in 0..disks {
-                write_cell(f, self.layout.owner(Place { disk, row }), width)?;
+                match self.layout.owner(Place { disk, row }) {
+                    Some(member) => write!(f, "{:>8}", Label { member, width })?,
+                    None => write!(f, "{:>8}", '-')?,
+                }
             }
         }
         Ok(())
     }
-}
-
-// Eight characters, the label at their right end.
-fn write_cell<W: fmt::Write>(
-    f: &mut fmt::Formatter<W>,
-    owner: Option<Member>,
-    width: usize,
-) -> fmt::Result {
-    let Some(member) = owner else {
-        return write!(f, "       -");
-    };
-    let label = Label { member, width };
-    let letter = label.letter();
-    let number = label.number();
-    let room = 7usize.saturating_sub(number.checked_ilog10().unwrap_or(0) as usize);
-    write!(f, "{letter:>room$}{number}")
 }

@@ -2,13 +2,14 @@
 use crate::call::{play, read, renew, write};
 use broken_shelf::BrokenShelf;
 use shelf::fault::FaultShelf;
+use std::alloc::Global;
 
-pub fn codes(rt: &HostRuntime) -> anyhow::Result<()> {
+pub fn codes(rt: &impl Print, heap: Global) -> anyhow::Result<()> {
     println!(rt; "\nA shelf that always faults, with every code that a disk's fault may have.")?;
     for code in 2..=8u8 {
         let mut shelf = BrokenShelf::new(3, code);
         let disk = usize::from(code);
-        play(rt, &mut shelf, &[read(disk, 2)])?;
+        play(rt, heap, &mut shelf, &[read(disk, 2)])?;
     }
     let mut shelf = BrokenShelf::new(3, 9);
     let calls = [
@@ -19,10 +20,10 @@ pub fn codes(rt: &HostRuntime) -> anyhow::Result<()> {
         write(0, 3, 1),
         renew(32),
     ];
-    play(rt, &mut shelf, &calls)
+    play(rt, heap, &mut shelf, &calls)
 }
 
-pub fn below(rt: &HostRuntime) -> anyhow::Result<()> {
+pub fn below(rt: &impl Print, heap: Global) -> anyhow::Result<()> {
     println!(rt;
         "\nThe same below a fault shelf, whose disk 0 is gone at access 2: a renewal that fails below leaves it gone and marked."
     )?;
@@ -36,8 +37,7 @@ pub fn below(rt: &HostRuntime) -> anyhow::Result<()> {
         read(0, 0),
         read(0, 3),
     ];
-    play(rt, &mut shelf, &calls)?;
-    let count = shelf.count(0);
-    println!(rt; "  counted: {count} of disk 0")?;
+    play(rt, heap, &mut shelf, &calls)?;
+    println!(rt; "  counted: {} of disk 0", shelf.count(0))?;
     Ok(())
 }

@@ -9,20 +9,17 @@ mod memory;
 mod script;
 
 fn main(rt: HostRuntime) -> anyhow::Result<()> {
-    run(&rt)
-}
-
-fn run(rt: &HostRuntime) -> anyhow::Result<()> {
+    let heap = rt.alloc();
     println!(rt; "Each line is a call, its answer, and the disks that are marked after it.")?;
-    memory::places(rt)?;
-    memory::changes(rt)?;
-    memory::out_of_range(rt)?;
-    memory::without_disks(rt)?;
-    script::edges(rt)?;
-    script::room(rt)?;
-    fault::causes(rt)?;
-    fault::counts(rt)?;
-    fault::stacked(rt)?;
-    broken::codes(rt)?;
-    broken::below(rt)
+    memory::places(&rt, heap)?;
+    memory::changes(&rt, heap)?;
+    memory::out_of_range(&rt, heap)?;
+    memory::without_disks(&rt, heap)?;
+    script::edges(&rt)?;
+    script::room(&rt)?;
+    fault::causes(&rt, heap)?;
+    fault::counts(&rt, heap)?;
+    fault::stacked(&rt, heap)?;
+    broken::codes(&rt, heap)?;
+    broken::below(&rt, heap)
 }

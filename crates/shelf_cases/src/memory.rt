@@ -1,15 +1,15 @@
 // A memory shelf: the order of its places, what a change leaves, and what lies out of range.
 use crate::call::{Call, play, read, renew, write};
-use shelf::Shelf;
 use shelf::memory::MemoryShelf;
+use shelf::{Place, Shelf};
 use std::alloc::{AllocError, Global};
 use units::unit::UNIT;
 
 // Bytes for this many units: each byte of unit i is 10 + i.
 pub fn numbered(heap: Global, units: usize) -> Result<Vec<u8>, AllocError> {
-    let mut bytes = Vec::new(heap);
-    for i in 0..units.saturating_mul(UNIT) {
-        bytes.push(((10 + i / UNIT) & 0xff) as u8)?;
+    let mut bytes = vec![in heap; 0u8; units.saturating_mul(UNIT)]?;
+    for (i, unit) in bytes.chunks_exact_mut(UNIT).enumerate() {
+        unit.fill(10u8.wrapping_add((i & 0xff) as u8));
     }
     Ok(bytes)
 }
@@ -19,11 +19,11 @@ pub fn small(heap: Global) -> Result<MemoryShelf, AllocError> {
     Ok(MemoryShelf::new(2, 3, numbered(heap, 6)?))
 }
 
-pub fn places(rt: &HostRuntime) -> anyhow::Result<()> {
+pub fn places(rt: &impl Print, heap: Global) -> anyhow::Result<()> {
     println!(rt;
         "\nA memory shelf of 2 disks and 3 rows. Of the bytes handed over, unit i holds 10 + i; 1.2 is disk 1, row 2."
     )?;
-    let mut shelf = small(rt.alloc())?;
+    let mut shelf = small(heap)?;
     let calls = [
         read(0, 0),
         read(0, 1),
@@ -32,21 +32,12 @@ pub fn places(rt: &HostRuntime) -> anyhow::Result<()> {
         read(1, 1),
         read(1, 2),
     ];
-    play(rt, &mut shelf, &calls)
+    play(rt, heap, &mut shelf, &calls)
 }
 
-// The first byte of each unit of the bytes.
-fn firsts(bytes: &[u8]) -> [u8; 6] {
-    let mut firsts = [0; 6];
-    for i in 0..firsts.len() {
-        firsts[i] = bytes.get(i * UNIT).copied().unwrap_or(0);
-    }
-    firsts
-}
-
-pub fn changes(rt: &HostRuntime) -> anyhow::Result<()> {
+pub fn changes(rt: &impl Print, heap: Global) -> anyhow::Result<()> {
     println!(rt; "\nA write changes one place, a renewal one disk.")?;
-    let mut shelf = small(rt.alloc())?;
+    let mut shelf = small(heap)?;
     let calls = [
         write(0, 1, 77),
         read(0, 0),
@@ -60,19 +51,21 @@ pub fn changes(rt: &HostRuntime) -> anyhow::Result<()> {
         read(1, 0),
         read(1, 2),
     ];
-    play(rt, &mut shelf, &calls)?;
+    play(rt, heap, &mut shelf, &calls)?;
     let bytes = shelf.into_bytes();
-    let len = bytes.len();
-    let firsts = firsts(&bytes);
-    println!(rt; "  taken apart: {len} bytes, the units {firsts:?}")?;
+    let firsts: Vec<u8> = bytes.iter().step_by(UNIT).copied().collect(heap)?;
+    println!(rt;
+        "  taken apart: {} bytes, the units {firsts:?}",
+        bytes.len()
+    )?;
     Ok(())
 }
 
-pub fn out_of_range(rt: &HostRuntime) -> anyhow::Result<()> {
+pub fn out_of_range(rt: &impl Print, heap: Global) -> anyhow::Result<()> {
     println!(rt;
         "\nOut of range in each argument, and bytes that are not a unit: code 1, and nothing changes."
     )?;
-    let mut shelf = small(rt.alloc())?;
+    let mut shelf = small(heap)?;
     let far = usize::MAX;
     let places = [
         read(2, 0),
@@ -85,24 +78,20 @@ pub fn out_of_range(rt: &HostRuntime) -> anyhow::Result<()> {
         renew(2),
         renew(far),
     ];
-    play(rt, &mut shelf, &places)?;
+    play(rt, heap, &mut shelf, &places)?;
+    let place = Place { disk: 0, row: 0 };
     for len in [0, 511, 513] {
         let lengths = [
-            Call::Read {
-                disk: 0,
-                row: 0,
-                len,
-            },
+            Call::Read { place, len },
             Call::Write {
-                disk: 0,
-                row: 0,
+                place,
                 len,
                 fill: 1,
             },
         ];
-        play(rt, &mut shelf, &lengths)?;
+        play(rt, heap, &mut shelf, &lengths)?;
     }
-    play(rt, &mut shelf, &[read(0, 0), read(1, 2)])
+    play(rt, heap, &mut shelf, &[read(0, 0), read(1, 2)])
 }
 
 // Disks, rows, and for how many units there are bytes.
@@ -120,19 +109,25 @@ const SIZES: [(usize, usize, usize); 11] = [
     (9223372036854775808, 2, 0),
 ];
 
-pub fn without_disks(rt: &HostRuntime) -> anyhow::Result<()> {
+pub fn without_disks(rt: &impl Print, heap: Global) -> anyhow::Result<()> {
     println!(rt;
         "\nA memory shelf whose bytes do not fit its numbers, or whose numbers are too large, has no disks."
     )?;
     for (disks, rows, units) in SIZES {
-        let shelf = MemoryShelf::new(disks, rows, numbered(rt.alloc(), units)?);
-        let has = shelf.disks();
-        let of = shelf.rows();
-        println!(rt; "  {disks} x {rows} over {units} units: {has} disks of {of} rows")?;
+        let shelf = MemoryShelf::new(disks, rows, numbered(heap, units)?);
+        println!(rt;
+            "  {disks} x {rows} over {units} units: {} disks of {} rows",
+            shelf.disks(),
+            shelf.rows()
+        )?;
     }
-    let mut shelf = MemoryShelf::new(2, 3, numbered(rt.alloc(), 5)?);
-    play(rt, &mut shelf, &[read(0, 0), write(0, 0, 1), renew(0)])?;
-    let len = shelf.into_bytes().len();
-    println!(rt; "  taken apart: {len} bytes")?;
+    let mut shelf = MemoryShelf::new(2, 3, numbered(heap, 5)?);
+    play(
+        rt,
+        heap,
+        &mut shelf,
+        &[read(0, 0), write(0, 0, 1), renew(0)],
+    )?;
+    println!(rt; "  taken apart: {} bytes", shelf.into_bytes().len())?;
     Ok(())
 }

@@ -16,7 +16,7 @@ impl fmt::Display for Added {
     }
 }
 
-// Disk, access and cause.
+// Disk, access and cause: numbers, since some name no disk, no access or no cause.
 const LINES: [(usize, usize, usize); 14] = [
     (0, 1, 2),
     (31, 1, 2),
@@ -34,32 +34,33 @@ const LINES: [(usize, usize, usize); 14] = [
     (0, 1, 258),
 ];
 
-pub fn edges(rt: &HostRuntime) -> anyhow::Result<()> {
+pub fn edges(rt: &impl Print) -> anyhow::Result<()> {
     println!(rt; "\nLines of a script: disk, access, cause.")?;
     for (disk, at, cause) in LINES {
         let mut script = FaultScript::new();
-        let added = Added(script.add(disk, at, cause));
-        println!(rt; "  {disk} {at} {cause}: {added}")?;
+        println!(rt;
+            "  {disk} {at} {cause}: {}",
+            Added(script.add(disk, at, cause))
+        )?;
     }
     Ok(())
 }
 
-pub fn room(rt: &HostRuntime) -> anyhow::Result<()> {
+pub fn room(rt: &impl Print) -> anyhow::Result<()> {
     println!(rt; "\nRoom for 32 lines; a bad line is denied as such also where there is no room.")?;
     let mut script = FaultScript::new();
     for line in 1..=34usize {
         let added = Added(script.add(5, line, 2));
-        if line < 2 || line > 31 {
+        if !(2..=31).contains(&line) {
             println!(rt; "  line {line}: {added}")?;
         }
     }
-    let bad = Added(script.add(32, 1, 2));
-    println!(rt; "  a bad line then: {bad}")?;
-    let first = script.access(5);
-    let other = script.access(6);
-    let none = script.access(32);
+    println!(rt; "  a bad line then: {}", Added(script.add(32, 1, 2)))?;
     println!(rt;
-        "  then an access of disk 5: {first:?}, of disk 6: {other:?}, of disk 32: {none:?}"
+        "  then an access of disk 5: {:?}, of disk 6: {:?}, of disk 32: {:?}",
+        script.access(5),
+        script.access(6),
+        script.access(32)
     )?;
     let counts = [
         script.count(5),
