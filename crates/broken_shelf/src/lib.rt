@@ -21,7 +21,7 @@ pub struct BrokenShelf {
 }
 
 impl BrokenShelf {
-    // A code under 2 is taken as 2, one over 8 as 8.
+    // A code under 2 is taken as 2, one over 8 as 8. It is a number, by a rule of the project, as that of every shelf fault.
     pub fn new(rows: usize, code: u8) -> BrokenShelf
         ensures rows { result.rows ≡ rows }
         ensures code { result.code ≡ code }

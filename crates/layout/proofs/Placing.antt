@@ -1,12 +1,17 @@
 -- What follows from the placing law, for any layout. Assumes nothing.
-use Rattle.std.proofs.Common.{◌≡◌, ℕ, ◌<◌, ◌≤◌, Some, IsTrue, ◌↔◌, sym, ◌∙◌, refl, inl, inr, arith}
+use Rattle.std.proofs.Common.{◌≡◌, ℕ, ◌/◌, ◌%◌, ◌<◌, ◌≤◌, Some, IsTrue, ◌↔◌, sym, ◌∙◌, refl, inl, inr, arith}
 use lib.Count.{ones}
 use Rattle.std.proofs.lemmas.Bool.{cases_lt}
+use Rattle.std.proofs.lemmas.Nat.{mod_below, div_below}
 use Rattle.units.specs.Sets.{has}
 use Rattle.units.proofs.Counts.{two_out}
 use Rattle.units.specs.declared.place.Place.{Place}
-use Rattle.layout.specs.Shape.{Shape, PlacingLaw, OnDisk, IsMember, member_at}
+use Rattle.layout.specs.Shape.{Shape, PlacingLaw, OnDisk, IsMember, IsDataMember, data_units, data_width, member_at}
 use Rattle.layout.specs.declared.Member.{Member}
+
+-- each data unit is a data member
+pub units_are_members : (p : Shape) → PlacingLaw p → (u : ℕ) → u < data_units p → IsDataMember p (member_at (u / data_width p) (u % data_width p))
+units_are_members p law u h = (div_below u (data_width p) p.stripes (omega arith) h, mod_below u (data_width p) (omega arith))
 
 -- a stripe has at most one member on a disk
 pub one_on_disk : (p : Shape) → PlacingLaw p → (s d set : ℕ) → ((j : ℕ) → IsTrue (has set j) ↔ OnDisk p (member_at s j) d) → ones set ≤ 1

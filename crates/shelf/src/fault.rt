@@ -50,7 +50,7 @@ impl<S: Shelf> FaultShelf<S> {
         self.script.count(disk)
     }
 
-    // Taken apart: the shelf below and the script, as they are now.
+    // Taken apart: the shelf below and the script, as they are now. No `From`: a tuple would not say which parts these are.
     pub fn into_parts(self) -> (S, FaultScript)
         ensures below { result.0 ≡ self.below }
         ensures script { result.1 ≡ self.script }

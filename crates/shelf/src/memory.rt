@@ -25,6 +25,7 @@ impl MemoryShelf {
     ghost use Rattle.units.specs.Units.{with_unit};
 
     // A shelf over these bytes; one with no disks where there are too many of either, or the bytes are not a unit for each place.
+    // No `Result`, by a rule of the project: numbers that do not fit make a shelf that answers every call with code 1.
     pub fn new(disks: usize, rows: usize, bytes: Vec<u8>) -> MemoryShelf
         ensures meaning { kept result ≡ new_memory disks rows bytes.items }
         ensures bytes { result.bytes ≡ bytes }
@@ -38,7 +39,7 @@ impl MemoryShelf {
         MemoryShelf { extent, bytes }
     }
 
-    // The bytes given back, as the shelf holds them now.
+    // The bytes given back, as the shelf holds them now. No `From`: std's own word for this, as at a `String`, says more.
     pub fn into_bytes(self) -> Vec<u8>
         ensures { result ≡ self.bytes }
     {

@@ -60,6 +60,7 @@ pub struct FaultLine {
 
 impl FaultLine {
     // The line of these numbers: a disk from 0 to 31, an access from 1 to 2,147,483,647, a cause from 2 to 4.
+    // They are numbers of any size, the cause too, by a rule of the project: a script comes from text or from a host.
     pub fn new(disk: usize, at: usize, cause: usize) -> Result<FaultLine, Denial>
         ensures { result ≡ line_of disk at cause }
     {
@@ -80,6 +81,7 @@ impl FaultLine {
 }
 
 // Up to 32 lines, how many reads and writes each disk has had, and which disks are gone.
+// Counts and gone disks are two fields, by a rule of the project: a set of disks is held in one number.
 #[derive(Drop)]
 pub struct FaultScript {
     lines: ArrayVec<FaultLine, MOST_LINES>,
@@ -134,6 +136,7 @@ impl FaultScript {
         if disk >= MOST_DISKS {
             return None;
         }
+        // By index: with `get_mut` and `?` five goals stayed open.
         let count = self.counts[disk].saturating_add(1);
         self.counts[disk] = count;
         let due = if self.gone.contains(disk) {

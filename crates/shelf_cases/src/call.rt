@@ -112,7 +112,7 @@ impl fmt::Display for Outcome {
     }
 }
 
-// Reads into a buffer of this length, and gives its first byte.
+// Reads into a buffer of this length, and gives its first byte. The bytes are an array, since a Vec would bring an error that no call has.
 fn read_first<S: Shelf>(shelf: &mut S, place: Place, len: usize) -> Result<Option<u8>, Refusal> {
     let mut bytes = [BLANK; LONGEST];
     let buffer = &mut bytes[..len.min(LONGEST)];

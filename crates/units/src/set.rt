@@ -45,6 +45,7 @@ impl Set {
     pub fn remove(&mut self, i: usize)
         ensures { (j : ℕ) → has self.new j ≡ (has self.old j && not (j == i)) }
     {
+        // Read before the test, since a number over 31 is in no set of 32 bits.
         let bits = self.bits;
         if i < LIMIT {
             self.bits = bits & !(1 << i);

@@ -38,7 +38,7 @@ fn add_bytes(target: &mut [u8], source: &[u8])
     requires source { length source.now ≡ 512 }
     ensures { target.new ≡ plus target.old source.now }
 {
-    // By index, as the project wants the bytes of a sum gone over.
+    // By index, by a rule of the project: a sum goes over the bytes of a unit by their number.
     for i in 0..UNIT {
         target[i] ^= source[i];
     }
