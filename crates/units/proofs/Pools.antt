@@ -1,8 +1,9 @@
 -- A pool by its units: what stands in a unit, and in the pool with another unit in its place.
-use Rattle.std.proofs.Common.{◌≡◌, ℕ, ◌+◌, ◌-◌, ◌*◌, ◌/◌, ◌<◌, ◌≤◌, true, List, ◌++◌, length, get_or, take, drop, sym, ap, ◌∙◌, subst, inl, inr, arith, length-append, length-drop, length-take}
-use Rattle.std.proofs.lemmas.List.{ext_get_or, get_or_append_left, get_or-append_right, get_or-take, get_or-drop, length-take-le}
+use Rattle.std.proofs.Common.{◌≡◌, ℕ, ◌+◌, ◌-◌, ◌*◌, ◌/◌, ◌<◌, ◌≤◌, true, List, ◌++◌, length, get_or, take, drop, sym, ap, ap₂, ◌∙◌, subst, inl, inr, arith, length-append, length-drop, length-take}
+use borrow.Rule.Slice.PartMut.{put_mid}
+use Rattle.std.proofs.lemmas.List.{drop-drop, ext_get_or, get_or_append_left, get_or-append_right, get_or-take, get_or-drop, length-take-le}
 use Rattle.std.proofs.lemmas.Bool.{cases_lt, lt-ltb, ltb-true}
-use Rattle.units.specs.Units.{holds_unit, IsUnit, part_at, unit_at, with_part, with_unit}
+use Rattle.units.specs.Units.{holds_unit, IsUnit, part_at, plus, unit_at, with_part, with_unit}
 
 -- ---- parts of 512 bytes, at any byte
 
@@ -19,6 +20,11 @@ part_at_is p u at h whole each =
     let l = length-part_at p at h in
     ext_get_or 0 (part_at p at) u (l ∙ sym whole)
     (λ k b. let b' : k < 512 = omega (arith, l) in get_or-part_at p at k b' ∙ each k b')
+
+-- the k bytes from `at` on written over by their sum with u, where these are the part
+pub part_summed : (at k : ℕ) (p t u : List ℕ) → k ≡ 512 → t ≡ plus (take k (drop at p)) u → put_mid at k p t ≡ with_part p at (plus (part_at p at) u)
+part_summed at k p t u whole sum =
+    ap₂ (λ sum rest. take at p ++ (sum ++ rest)) (sum ∙ ap (λ n. plus (take n (drop at p)) u) whole) (drop-drop k at p ∙ ap (λ n. drop (at + n) p) whole)
 
 module _ (p u : List ℕ) (at : ℕ) (fits : at + 512 ≤ length p) (whole : length u ≡ 512) where
   pub length-with_part : length (with_part p at u) ≡ length p

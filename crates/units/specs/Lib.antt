@@ -1,4 +1,4 @@
--- What the contracts of this crate cite.
+-- What contracts cite, those of this crate and those above it.
 pub mod Units
 pub mod Sums
 pub mod Sets

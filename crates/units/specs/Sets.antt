@@ -1,5 +1,5 @@
 -- Sets of small numbers (members, disks, buffers, nodes), each held in one number. Assumes nothing.
-use Rattle.std.specs.Prelude.{◌≡◌, ℕ, ◌<◌, Bool, true, false, List, ◌==◌, filter}
+use Rattle.std.specs.Prelude.{◌≡◌, ℕ, ◌<◌, Bool, true, false, not, ◌&&◌, ◌||◌, List, ◌==◌, filter, nat_lt}
 use Rattle.std.specs.List.{range_with_len}
 use Rattle.std.specs.Int.{bit_at}
 
@@ -10,6 +10,14 @@ has s i = bit_at s i == 1
 -- the numbers below n that are in the set, rising; shut, since at a numeral n it would unfold into n tests
 unfoldable pub elements : ℕ → ℕ → List ℕ
 elements n s = filter (has s) (range_with_len 0 n)
+
+-- the set t is the set s with i put in; a number over 31 is left out
+abbrev pub Inserts : ℕ → ℕ → ℕ → Type 0
+Inserts s t i = (j : ℕ) → has t j ≡ (has s j || (j == i && nat_lt i 32))
+
+-- the set t is the set s with i taken out
+abbrev pub Removes : ℕ → ℕ → ℕ → Type 0
+Removes s t i = (j : ℕ) → has t j ≡ (has s j && not (j == i))
 
 -- every number in a is in b
 abbrev pub Subset : ℕ → ℕ → Type 0

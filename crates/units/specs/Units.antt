@@ -41,7 +41,7 @@ abbrev pub with_sum : List ℕ → ℕ → ℕ → List ℕ
 with_sum pool to from =
     if holds_unit pool to && holds_unit pool from then with_unit pool to (plus (unit_at pool to) (unit_at pool from)) else pool
 
--- the byte at which unit i of a pool begins, or the fault that the pool has no such unit
+-- the byte at which unit i of a pool begins, or that the pool has no such unit
 abbrev pub start_of : List ℕ → ℕ → Result ℕ NoSuchUnit
 start_of pool i = if holds_unit pool i then Ok (i * 512) else Err (record { unit = i })
 

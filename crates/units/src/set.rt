@@ -1,13 +1,13 @@
 // A set of numbers from 0 to 31: members, disks, buffers or nodes.
-ghost use Rattle.std.specs.Prelude.{◌≡◌, ℕ, ◌<◌, ◌↔◌, false, not, ◌&&◌, ◌||◌, length, IsTrue, MatchOption, ◌==◌, count_ones, nat_lt};
-ghost use Rattle.units.specs.Sets.{elements, has, Lowest, Subset};
+ghost use Rattle.std.specs.Prelude.{◌≡◌, ℕ, ◌<◌, ◌≤◌, ◌↔◌, false, not, ◌&&◌, ◌||◌, length, IfSome, IsTrue, MatchOption, count_ones};
+ghost use Rattle.units.specs.Sets.{elements, has, Inserts, Lowest, Removes, Subset};
 
 use std::marker::Model;
 
 // How many numbers a set can hold.
 pub const LIMIT: usize = 32;
 
-// Number i is in the set where bit i of `bits` is set. Contracts see a set as that number.
+// Number i is in the set where bit i of `bits` is set. In contracts a set is the number `bits`.
 #[derive(Clone, Copy, PartialEq, Eq, Debug)]
 pub struct Set {
     bits: u32,
@@ -26,7 +26,8 @@ impl Set {
 
     #[tactic(auto, using(crate::proofs::Sets::contained, crate::proofs::Sets::none_over))]
     pub fn contains(self, i: usize) -> bool
-        ensures { result ≡ has self i }
+        ensures there { result ≡ has self i }
+        ensures over { 32 ≤ i → result ≡ false }
     {
         i < LIMIT && (self.bits >> i) & 1 == 1
     }
@@ -34,7 +35,7 @@ impl Set {
     // Puts `i` in; a number over 31 is left out.
     #[tactic(auto, using(crate::proofs::Sets::inserted))]
     pub fn insert(&mut self, i: usize)
-        ensures { (j : ℕ) → has self.new j ≡ (has self.old j || (j == i && nat_lt i 32)) }
+        ensures { Inserts self.old self.new i }
     {
         if i < LIMIT {
             self.bits |= 1 << i;
@@ -43,7 +44,7 @@ impl Set {
 
     #[tactic(auto, using(crate::proofs::Sets::removed, crate::proofs::Sets::none_over))]
     pub fn remove(&mut self, i: usize)
-        ensures { (j : ℕ) → has self.new j ≡ (has self.old j && not (j == i)) }
+        ensures { Removes self.old self.new i }
     {
         // Read before the test, since a number over 31 is in no set of 32 bits.
         let bits = self.bits;
@@ -89,7 +90,8 @@ impl Set {
     // The lowest number in the set, or none where it is empty.
     #[tactic(auto, using(crate::proofs::Counts::lowest_there, crate::proofs::Counts::none_below_lowest, crate::proofs::Sets::has_none))]
     pub fn lowest(self) -> Option<usize>
-        ensures { MatchOption result ((j : ℕ) → has self j ≡ false) (λ i. Lowest self i) }
+        ensures lowest { MatchOption result ((j : ℕ) → has self j ≡ false) (λ i. Lowest self i) }
+        ensures below { IfSome result (λ i. i < 32) }
     {
         if self.bits == 0 {
             return None;
@@ -98,7 +100,7 @@ impl Set {
     }
 }
 
-// The set whose numbers are the set bits, and back.
+// A set is made from its bits, and gives them back.
 impl From<u32> for Set {
     ghost from_gives = { λ bits s. s ≡ bits };
 

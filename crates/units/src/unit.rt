@@ -45,6 +45,7 @@ fn add_bytes(target: &mut [u8], source: &[u8])
 }
 
 // Adds a unit to the 512 bytes of the pool from byte `at` on.
+#[tactic(auto, using(crate::proofs::Pools::part_summed))]
 fn add_at(pool: &mut [u8], at: usize, source: &Unit)
     requires { at + 512 ≤ length pool.old }
     ensures { pool.new ≡ with_part pool.old at (plus (part_at pool.old at) source.now) }
@@ -70,6 +71,7 @@ pub fn add_within(pool: &mut [u8], to: usize, from: usize) -> Result<(), NoSuchU
 {
     let to = start(pool, to)?;
     let from = start(pool, from)?;
+    // A unit for working is zeroed first, by a rule of the project.
     let mut source = [0; UNIT];
     source.copy_from_slice(&pool[from..from + UNIT]);
     add_at(pool, to, &source);
@@ -78,6 +80,7 @@ pub fn add_within(pool: &mut [u8], to: usize, from: usize) -> Result<(), NoSuchU
 
 // The laws of the sum of units; a stripe is sound exactly when its check is the sum of its data, and then
 // each member is the sum of the others.
+#[tactic(auto, using(crate::proofs::Sums::unit_laws, crate::proofs::Sums::checks, crate::proofs::Sums::rebuilds))]
 pub fn sum_laws()
     ensures laws { SumLaws units IsUnit }
     ensures checks { Checks }
