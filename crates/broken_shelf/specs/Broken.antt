@@ -6,7 +6,7 @@ use Rattle.units.specs.declared.place.Place.{Place}
 use Rattle.units.specs.Sets.{has}
 use Rattle.units.specs.Units.{zeros}
 
--- 32 disks of zeros; those are marked that were asked for anything
+-- 32 disks of zeros, with the marks of its set
 abbrev pub broken : BrokenShelf → Meaning
 broken s = record { disks = 32; rows = s.rows; bytes = λ _. zeros; mark = has s.marks }
 

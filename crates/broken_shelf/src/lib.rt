@@ -4,7 +4,7 @@
 ghost use Rattle.std.specs.Prelude.{◌≡◌, ℕ, ◌&&◌, ◌||◌, length, Err, ◌==◌, nat_lt};
 ghost use Rattle.broken_shelf.specs.Broken.{AlwaysFaults, AlwaysFaultsRenewal, broken, fault};
 ghost use Rattle.shelf.specs.Meaning.{Marked, out_of_range, Within};
-ghost use Rattle.units.specs.Sets.{has};
+ghost use Rattle.units.specs.Sets.{Inserts};
 ghost use Rattle.std.proofs.Common.{rules};
 
 use denial::fault::ShelfFault;
@@ -34,7 +34,7 @@ impl BrokenShelf {
         }
     }
 
-    // Not a method of the trait: the calls of a shelf that ask for it would be in a cycle with it.
+    // Tried as a method of the trait: the calls below that ask for it close a cycle with it, which is refused.
     fn extent(&self) -> Extent
         ensures disks { result.disks ≡ 32 }
         ensures rows { result.rows ≡ self.now.rows }
@@ -45,10 +45,10 @@ impl BrokenShelf {
         }
     }
 
-    // Marks the disk, and gives its fault.
+    // Marks the disk, and gives its fault. An example shows the whole of what a supplier writes, so this stands here too.
     fn fail(&mut self, place: Place) -> ShelfFault
         ensures answer { Err result ≡ fault self.old place }
-        ensures marks { (d : ℕ) → has self.new.marks d ≡ (has self.old.marks d || (d == place.disk && nat_lt place.disk 32)) }
+        ensures marks { Inserts self.old.marks self.new.marks place.disk }
         ensures others { self.new ≡ record self.old { marks = self.new.marks } }
     {
         self.marks.insert(place.disk);
@@ -58,8 +58,10 @@ impl BrokenShelf {
     // What a read and a write of `len` bytes come to: in range a fault.
     fn access(&mut self, place: Place, len: usize) -> Result<(), ShelfFault>
         ensures faults { AlwaysFaults self.old place len result self.new }
-        ensures inside { Within 32 self.old.rows place len → Marked (broken self.old) place.disk (broken self.new) }
-        ensures outside { (Within 32 self.old.rows place len → ⊥) → (result ≡ out_of_range place) × (self.new ≡ self.old) }
+        ensures inside { Within 32 self.old.rows place len
+            → Marked (broken self.old) place.disk (broken self.new) }
+        ensures outside { (¬ Within 32 self.old.rows place len)
+            → (result ≡ out_of_range place) × (self.new ≡ self.old) }
     {
         self.extent().check(place, len)?;
         Err(self.fail(place))

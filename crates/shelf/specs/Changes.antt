@@ -5,30 +5,15 @@ use Rattle.units.specs.declared.place.Place.{Place}
 
 -- other bytes at one place
 abbrev pub with_bytes : Meaning → Place → List ℕ → Meaning
-with_bytes m p bs = record {
-  disks = m.disks;
-  rows = m.rows;
-  bytes = λ q. if q.disk == p.disk && q.row == p.row then bs else m.bytes q;
-  mark = m.mark;
-}
+with_bytes m p bs = record m { bytes = λ q. if q.disk == p.disk && q.row == p.row then bs else m.bytes q }
 
 -- other bytes on one disk, place by place
 abbrev pub with_disk : Meaning → ℕ → (Place → List ℕ) → Meaning
-with_disk m d bs = record {
-  disks = m.disks;
-  rows = m.rows;
-  bytes = λ q. if q.disk == d then bs q else m.bytes q;
-  mark = m.mark;
-}
+with_disk m d bs = record m { bytes = λ q. if q.disk == d then bs q else m.bytes q }
 
 -- the mark of one disk set or cleared
 abbrev pub with_mark : Meaning → ℕ → Bool → Meaning
-with_mark m d b = record {
-  disks = m.disks;
-  rows = m.rows;
-  bytes = m.bytes;
-  mark = λ e. if e == d then b else m.mark e;
-}
+with_mark m d b = record m { mark = λ e. if e == d then b else m.mark e }
 
 -- what a call changes is given in full: only the bytes after a faulted write, and those of a renewed disk, are the shelf's choice
 pub record ExactChanges : Type 0 where

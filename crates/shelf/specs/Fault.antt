@@ -1,9 +1,9 @@
 -- The fault shelf: a shelf over another, whose accesses fault by a script. Assumes nothing.
-use Rattle.std.specs.Prelude.{◌≡◌, ℕ, Bool, not, ◌&&◌, ◌||◌, List, length, Err, MatchOption, MatchResult, ◌==◌}
+use Rattle.std.specs.Prelude.{◌≡◌, ℕ, Bool, ◌||◌, List, length, Err, MatchOption, MatchResult}
 use Rattle.shelf.specs.declared.fault.FaultShelf.{FaultShelf}
 use Rattle.shelf.specs.declared.script.Cause.{Cause}
 use Rattle.shelf.specs.Meaning.{Answer, fault_at, Meaning, Reads, Renews, Within, Writes}
-use Rattle.units.specs.Sets.{has}
+use Rattle.units.specs.Sets.{has, Inserts, Removes}
 use Rattle.units.specs.declared.place.Place.{Place}
 use Rattle.shelf.specs.Script.{BringsBack, code, Counts, due}
 
@@ -14,12 +14,7 @@ with_marks marks mark d = has marks d || mark d
 module _ {S : Type 0} (meant : S → Meaning) where
   -- what the shelf means: as the one below, but a mark here shows too
   abbrev pub over : FaultShelf S → Meaning
-  over s = record {
-    disks = (meant s.below).disks;
-    rows = (meant s.below).rows;
-    bytes = (meant s.below).bytes;
-    mark = with_marks s.marks (meant s.below).mark;
-  }
+  over s = record (meant s.below) { mark = with_marks s.marks (meant s.below).mark }
 
   -- the access is in range of the shelf
   abbrev pub Reached : FaultShelf S → Place → ℕ → Type 0
@@ -29,11 +24,11 @@ module _ {S : Type 0} (meant : S → Meaning) where
   pub record FaultsHere (s : FaultShelf S) (p : Place) (answer : Answer) (t : FaultShelf S) (cause : Cause) : Type 0 where
     pub told : answer ≡ Err (fault_at (code cause) p)
     pub below : t.below ≡ s.below
-    pub marks : (e : ℕ) → has t.marks e ≡ (has s.marks e || e == p.disk)
+    pub marks : Inserts s.marks t.marks p.disk
 
   -- an access by the script: out of range nothing changes; in range it is counted, and faults where a fault is due, else passes down
   pub record ByScript (s : FaultShelf S) (p : Place) (n : ℕ) (answer : Answer) (t : FaultShelf S) (Passed : Type 0) : Type 0 where
-    pub outside : (Reached s p n → ⊥) → t ≡ s
+    pub outside : (¬ Reached s p n) → t ≡ s
     pub counts : Reached s p n → Counts s.script p.disk t.script
     pub goes : Reached s p n → MatchOption (due s.script p.disk) (Passed × (t.marks ≡ s.marks)) (FaultsHere s p answer t)
 
@@ -41,7 +36,7 @@ module _ {S : Type 0} (meant : S → Meaning) where
   pub record PassesRenewal (s : FaultShelf S) (d : ℕ) (answer : Answer) (t : FaultShelf S) (Passed : Type 0) : Type 0 where
     pub passed : Passed
     pub served : MatchResult answer
-        (λ _. BringsBack s.script d t.script × ((e : ℕ) → has t.marks e ≡ (has s.marks e && not (e == d))))
+        (λ _. BringsBack s.script d t.script × Removes s.marks t.marks d)
         (λ _. (t.script ≡ s.script) × (t.marks ≡ s.marks))
 
   -- what the fault shelf says of its calls: what passes down is one call below, which goes by its relation and by what that shelf says besides

@@ -41,4 +41,4 @@ abbrev pub FaultsByHistory : Type 0
 FaultsByHistory =
     (s t : FaultScript) (es : List Event) → Unused s → Becomes s es t → (d : ℕ) → d < 32
     → (GoneSince (lines s) d es → due t d ≡ Some Gone)
-    × ((GoneSince (lines s) d es → ⊥) → due t d ≡ first_cause (lines s) d (next_number d es))
+    × ((¬ GoneSince (lines s) d es) → due t d ≡ first_cause (lines s) d (next_number d es))

@@ -1,4 +1,4 @@
--- What the contracts of this crate cite.
+-- What the contracts of this crate cite; and in Places, what proves the law of a shelf.
 pub mod Meaning
 pub mod Changes
 pub mod Memory

@@ -88,7 +88,7 @@ pub record Reads (m : Meaning) (p : Place) (before : List ℕ) (answer : Answer)
   pub inside : Within m.disks m.rows p (length before) → MatchResult answer
       (λ _. (after ≡ m.bytes p) × (m' ≡ m))
       (λ f. DiskFault p f × (after ≡ before) × Marked m p.disk m')
-  pub outside : (Within m.disks m.rows p (length before) → ⊥)
+  pub outside : (¬ Within m.disks m.rows p (length before))
       → (answer ≡ out_of_range p) × (after ≡ before) × (m' ≡ m)
 
 -- a write puts the bytes there; on a fault the disk is marked, and the place may hold any unit
@@ -96,14 +96,14 @@ pub record Writes (m : Meaning) (p : Place) (bs : List ℕ) (answer : Answer) (m
   pub inside : Within m.disks m.rows p (length bs) → MatchResult answer
       (λ _. Stored m p bs m')
       (λ f. DiskFault p f × Spoilt m p m')
-  pub outside : (Within m.disks m.rows p (length bs) → ⊥) → (answer ≡ out_of_range p) × (m' ≡ m)
+  pub outside : (¬ Within m.disks m.rows p (length bs)) → (answer ≡ out_of_range p) × (m' ≡ m)
 
 -- a renewal clears the disk's mark, and its places may hold any units; on a fault the disk is only marked
 pub record Renews (m : Meaning) (d : ℕ) (answer : Answer) (m' : Meaning) : Type 0 where
   pub inside : d < m.disks → MatchResult answer
       (λ _. Renewed m d m')
       (λ f. DiskFault (first_of d) f × Marked m d m')
-  pub outside : (d < m.disks → ⊥) → (answer ≡ out_of_range (first_of d)) × (m' ≡ m)
+  pub outside : (¬ (d < m.disks)) → (answer ≡ out_of_range (first_of d)) × (m' ≡ m)
 
 -- a disk's mark as it is told: none out of range
 abbrev pub marked : Meaning → ℕ → Bool

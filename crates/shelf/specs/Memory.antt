@@ -5,9 +5,13 @@ use Rattle.shelf.specs.Meaning.{Answer, first_of, Meaning, out_of_range}
 use Rattle.units.specs.declared.place.Place.{Place}
 use Rattle.units.specs.Units.{unit_at, with_unit, zeros}
 
+-- which unit of the bytes stands at a place, where a disk has so many rows
+abbrev pub number_of : ℕ → Place → ℕ
+number_of rows p = p.disk * rows + p.row
+
 -- the bytes at a place: disk after disk, and of each disk row after row; none out of range
 abbrev pub bytes_at : ℕ → ℕ → List ℕ → Place → List ℕ
-bytes_at disks rows bs p = if nat_lt p.disk disks && nat_lt p.row rows then unit_at bs (p.disk * rows + p.row) else []
+bytes_at disks rows bs p = if nat_lt p.disk disks && nat_lt p.row rows then unit_at bs (number_of rows p) else []
 
 -- a shelf over these bytes, which marks no disk
 abbrev pub memory : ℕ → ℕ → List ℕ → Meaning
@@ -39,7 +43,7 @@ renewal_answer s d = if nat_lt d s.extent.disks then Ok tt else out_of_range (fi
 -- all bytes after a write: another unit at the place, in range
 abbrev pub after_write : MemoryShelf → Place → List ℕ → List ℕ
 after_write s p us =
-    if reached s p (length us) then with_unit (vec_items s.bytes) (p.disk * s.extent.rows + p.row) us else vec_items s.bytes
+    if reached s p (length us) then with_unit (vec_items s.bytes) (number_of s.extent.rows p) us else vec_items s.bytes
 
 -- the bytes with n units of zeros from unit i on
 abbrev pub with_zeros : List ℕ → ℕ → ℕ → List ℕ

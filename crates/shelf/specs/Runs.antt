@@ -30,7 +30,7 @@ abbrev pub after_renewal_there : Answer → Option (List ℕ) → Option (List �
 after_renewal_there (Ok _) before = None
 after_renewal_there (Err f) before = before
 
--- the bytes at a place: those at first, or those of the last served write there; unknown since a write there faulted, or the disk was renewed
+-- the bytes at a place: those at first, or those of the last served write there; unknown since a write there faulted with another code than 1, or the disk was renewed
 abbrev pub known : (Place → List ℕ) → Place → List Call → Option (List ℕ)
 known first p [] = Some (first p)
 known first p (read q before a after ∷ cs) = known first p cs
@@ -48,7 +48,7 @@ abbrev pub marked_by_renewal : Answer → Bool → Bool
 marked_by_renewal (Ok _) before = false
 marked_by_renewal (Err f) before = marked_by (Err f) before
 
--- a disk is marked when one of its calls faulted since its last served renewal, or it was marked at first and not renewed
+-- a disk is marked when one of its calls faulted with another code than 1 since its last served renewal, or it was marked at first and not renewed
 abbrev pub marked_after : (ℕ → Bool) → ℕ → List Call → Bool
 marked_after first d [] = first d
 marked_after first d (read q before a after ∷ cs) = if d == q.disk then marked_by a (marked_after first d cs) else marked_after first d cs

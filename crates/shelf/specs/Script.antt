@@ -1,12 +1,12 @@
 -- A script of faults: its lines, and which access of a disk is to fault. Assumes nothing.
-use Rattle.std.specs.Prelude.{◌≡◌, ℕ, ◌+◌, min, Bool, true, false, not, if◌then◌else◌, ◌&&◌, ◌||◌, List, [], ◌∷◌, ◌++◌, length, find, replicate, Some, None, Ok, Err, Option, ok_or, option_map, unwrap_or, Result, MatchResult, ◌==◌, nat_le, nat_lt, slice_get, slice_set}
+use Rattle.std.specs.Prelude.{◌≡◌, ℕ, ◌+◌, min, Bool, true, false, if◌then◌else◌, ◌&&◌, ◌||◌, List, [], ◌∷◌, ◌++◌, length, find, replicate, Some, None, Ok, Err, Option, ok_or, option_map, unwrap_or, Result, MatchResult, ◌==◌, nat_le, nat_lt, slice_get, slice_set}
 use Rattle.denial.specs.declared.Denial.{Denial}
 use Rattle.denial.specs.declared.Denial.TheVariants.{BadFaultLine, TooManyFaultLines}
 use Rattle.shelf.specs.declared.script.Cause.{Cause}
 use Rattle.shelf.specs.declared.script.Cause.TheVariants.{Medium, Gone, Late}
 use Rattle.shelf.specs.declared.script.FaultLine.{FaultLine}
 use Rattle.shelf.specs.declared.script.FaultScript.{FaultScript}
-use Rattle.units.specs.Sets.{has}
+use Rattle.units.specs.Sets.{has, Removes}
 
 -- ---- lines
 
@@ -64,7 +64,8 @@ pub record Adds (s : FaultScript) (d n c : ℕ) (answer : Result (Unit {0}) Deni
   pub lines : MatchResult answer
       (λ _. one_more (lines s) (line_of d n c) ≡ Ok (lines t))
       (λ e. (one_more (lines s) (line_of d n c) ≡ Err e) × (lines t ≡ lines s))
-  pub others : t ≡ record s { lines = t.lines }
+  pub counts : t.counts ≡ s.counts
+  pub gone : t.gone ≡ s.gone
 
 -- how many reads and writes of a disk were counted; disks over 31 are not counted
 abbrev pub count : FaultScript → ℕ → ℕ
@@ -85,7 +86,7 @@ takes_away (Some Medium) = false
 takes_away (Some Gone) = true
 takes_away (Some Late) = false
 
--- an access of a disk is counted, and the disk is gone after a fault with that cause
+-- an access of a disk is counted, and the disk is gone after a fault with the cause `Gone`
 pub record Counts (s : FaultScript) (d : ℕ) (t : FaultScript) : Type 0 where
   pub lines : lines t ≡ lines s
   pub counts : t.counts ≡ slice_set s.counts d (next_count s d)
@@ -93,5 +94,5 @@ pub record Counts (s : FaultScript) (d : ℕ) (t : FaultScript) : Type 0 where
 
 -- a renewed disk is there again; its count goes on
 pub record BringsBack (s : FaultScript) (d : ℕ) (t : FaultScript) : Type 0 where
-  pub gone : (e : ℕ) → has t.gone e ≡ (has s.gone e && not (e == d))
+  pub gone : Removes s.gone t.gone d
   pub others : t ≡ record s { gone = t.gone }

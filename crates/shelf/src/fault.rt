@@ -3,7 +3,7 @@ ghost use Rattle.std.specs.Prelude.{◌≡◌, ℕ, Ok, OnOk, ◌&&◌, ◌||◌
 ghost use Rattle.shelf.specs.Fault.{ByScript, over, Reached, Reading, Renewing, Writing};
 ghost use Rattle.shelf.specs.Meaning.{fault_at, out_of_range};
 ghost use Rattle.shelf.specs.Script.{Adds, code, count, Fresh};
-ghost use Rattle.units.specs.Sets.{has};
+ghost use Rattle.units.specs.Sets.{Inserts};
 ghost use Rattle.std.proofs.Common.{rules};
 
 use crate::extent::Extent;
@@ -35,7 +35,7 @@ impl<S: Shelf> FaultShelf<S> {
         }
     }
 
-    // One line more in the script: the `at`th access of the disk faults with the cause of this number.
+    // One line more in the script: the `at`th access of the disk faults with the cause of this number; numbers of any size, as in a line.
     pub fn add(&mut self, disk: usize, at: usize, cause: usize) -> Result<(), Denial>
         ensures script { Adds self.old.script disk at cause result self.new.script }
         ensures others { self.new ≡ record self.old { script = self.new.script } }
@@ -58,7 +58,7 @@ impl<S: Shelf> FaultShelf<S> {
         (self.below, self.script)
     }
 
-    // Not a method of the trait: the calls of a shelf that ask for it would be in a cycle with it.
+    // Tried as a method of the trait: in a supplier's calls that ask for it, it closes a cycle of calls, which is refused.
     fn extent(&self) -> Extent
         ensures disks { result.disks ≡ (S.meaning self.now.below).disks }
         ensures rows { result.rows ≡ (S.meaning self.now.below).rows }
@@ -72,7 +72,7 @@ impl<S: Shelf> FaultShelf<S> {
     // Marks the disk here, and gives the fault of this cause.
     fn fail(&mut self, place: Place, cause: Cause) -> ShelfFault
         ensures fault { result ≡ fault_at (code cause) place }
-        ensures marks { (d : ℕ) → has self.new.marks d ≡ (has self.old.marks d || (d == place.disk && nat_lt place.disk 32)) }
+        ensures marks { Inserts self.old.marks self.new.marks place.disk }
         ensures others { self.new ≡ record self.old { marks = self.new.marks } }
     {
         self.marks.insert(place.disk);
@@ -82,7 +82,7 @@ impl<S: Shelf> FaultShelf<S> {
     // What a read and a write of `len` bytes come to before the shelf below is asked: a fault where it is not to be asked.
     fn admit(&mut self, place: Place, len: usize) -> Result<(), ShelfFault>
         ensures script { ByScript S.Shelf.meaning self.old place len result self.new (result ≡ Ok tt) }
-        ensures outside { (Reached S.Shelf.meaning self.old place len → ⊥) → result ≡ out_of_range place }
+        ensures outside { (¬ Reached S.Shelf.meaning self.old place len) → result ≡ out_of_range place }
         ensures passes { OnOk result (self.new ≡ record self.old { script = self.new.script }) }
         ensures below { self.new.below ≡ self.old.below }
     {

@@ -62,7 +62,7 @@ pub trait Shelf {
     fn rows(&self) -> usize
         ensures { result ≡ (meaning self.now).rows };
 
-    // Whether the disk is marked; no out of range.
+    // Whether the disk is marked; false out of range.
     fn marked(&self, disk: usize) -> bool
         ensures { result ≡ marked (meaning self.now) disk };
 
@@ -70,12 +70,14 @@ pub trait Shelf {
 }
 
 // What a call changes, and that it changes nothing else, as equations of meanings.
+#[tactic(auto, using(crate::proofs::Equal::exact_changes))]
 pub fn exact_changes()
     ensures { ExactChanges }
 {}
 
 // What follows for every shelf over whole lists of calls: its places hold what was last put there, and its marks tell which disks
 // have faulted since they were renewed.
+#[tactic(auto, using(crate::proofs::Runs::remembers))]
 pub fn remembers()
     ensures { Remembers }
 {}

@@ -21,10 +21,10 @@ pub struct MemoryShelf {
 
 impl MemoryShelf {
     ghost use Rattle.shelf.specs.Meaning.{Renewed, Stored, Within};
-    ghost use Rattle.shelf.specs.Memory.{kept, new_memory, with_zeros, Zeroed};
+    ghost use Rattle.shelf.specs.Memory.{kept, new_memory, number_of, with_zeros, Zeroed};
     ghost use Rattle.units.specs.Units.{with_unit};
 
-    // A shelf over these bytes; one with no disks where there are too many of either, or the bytes are not a unit for each place.
+    // A shelf over these bytes; one with no disks where there are over 32 disks or 4,096 rows, or the bytes are not a unit for each place.
     // No `Result`, by a rule of the project: numbers that do not fit make a shelf that answers every call with code 1.
     pub fn new(disks: usize, rows: usize, bytes: Vec<u8>) -> MemoryShelf
         ensures meaning { kept result ≡ new_memory disks rows bytes.items }
@@ -51,7 +51,7 @@ impl MemoryShelf {
     fn start(&self, place: Place) -> usize
         requires disk { place.disk < self.now.extent.disks }
         requires row { place.row < self.now.extent.rows }
-        ensures at { result ≡ (place.disk * self.now.extent.rows + place.row) * 512 }
+        ensures at { result ≡ number_of self.now.extent.rows place * 512 }
         ensures fits { result + 512 ≤ vec_len self.now.bytes }
     {
         (place.disk * self.extent.rows + place.row) * UNIT
@@ -70,7 +70,7 @@ impl MemoryShelf {
     fn put(&mut self, place: Place, unit: &[u8])
         requires { Within self.old.extent.disks self.old.extent.rows place (length unit.now) }
         ensures stored { Stored (kept self.old) place unit.now (kept self.new) }
-        ensures bytes { self.new.bytes.items ≡ with_unit self.old.bytes.items (place.disk * self.old.extent.rows + place.row) unit.now }
+        ensures bytes { self.new.bytes.items ≡ with_unit self.old.bytes.items (number_of self.old.extent.rows place) unit.now }
     {
         let at = self.start(place);
         let held = &mut self.bytes[at..at + UNIT];

@@ -1,13 +1,15 @@
 // A script of faults: which access of a disk is to fault, and why.
-ghost use Rattle.std.specs.Prelude.{◌≡◌, ok_or};
+ghost use Rattle.std.specs.Prelude.{◌≡◌, ◌≤◌, length, ok_or};
 ghost use Rattle.denial.specs.declared.Denial.TheVariants.{BadFaultLine};
-ghost use Rattle.shelf.specs.History.{FaultsByHistory};
-ghost use Rattle.shelf.specs.Script.{Adds, BringsBack, cause_of, code, count, Counts, due, first_cause, Fresh, line_of, matches};
 
 use crate::MOST_DISKS;
 use arrayvec::ArrayVec;
 use denial::Denial;
 use units::set::Set;
+
+mod history;
+
+pub use history::faults_by_history;
 
 // How many lines a script has room for.
 pub const MOST_LINES: usize = 32;
@@ -25,6 +27,8 @@ pub enum Cause {
 }
 
 impl Cause {
+    ghost use Rattle.shelf.specs.Script.{code};
+
     // The code of a fault with this cause, which is also the cause's number in a line.
     pub fn code(self) -> u8
         ensures { result ≡ code self }
@@ -35,6 +39,8 @@ impl Cause {
 
 // The cause with this number.
 impl TryFrom<usize> for Cause {
+    ghost use Rattle.shelf.specs.Script.{cause_of};
+
     type Error = Denial;
 
     ghost try_from_gives = { λ number r. r ≡ ok_or (cause_of number) BadFaultLine };
@@ -59,13 +65,15 @@ pub struct FaultLine {
 }
 
 impl FaultLine {
+    ghost use Rattle.shelf.specs.Script.{first_cause, line_of, matches};
+
     // The line of these numbers: a disk from 0 to 31, an access from 1 to 2,147,483,647, a cause from 2 to 4.
     // They are numbers of any size, the cause too, by a rule of the project: a script comes from text or from a host.
     pub fn new(disk: usize, at: usize, cause: usize) -> Result<FaultLine, Denial>
         ensures { result ≡ line_of disk at cause }
     {
         let at = u32::try_from(at).map_err(|_| Denial::BadFaultLine)?;
-        if disk >= MOST_DISKS || at < 1 || at > LAST_ACCESS {
+        if disk >= MOST_DISKS || !(1..=LAST_ACCESS).contains(&at) {
             return Err(Denial::BadFaultLine);
         }
         let cause = Cause::try_from(cause)?;
@@ -78,6 +86,16 @@ impl FaultLine {
     {
         self.disk == disk && self.at == access
     }
+
+    // The cause of the first line for this access of this disk.
+    fn first_cause(lines: &[FaultLine], disk: usize, access: u32) -> Option<Cause>
+        ensures { result ≡ first_cause lines.now disk access }
+    {
+        lines
+            .iter()
+            .find(|line| line.matches(disk, access))
+            .map(|line| line.cause)
+    }
 }
 
 // Up to 32 lines, how many reads and writes each disk has had, and which disks are gone.
@@ -87,19 +105,13 @@ pub struct FaultScript {
     lines: ArrayVec<FaultLine, MOST_LINES>,
     counts: [u32; MOST_DISKS],
     gone: Set,
-}
-
-// The cause of the first line for this access of this disk.
-fn first_cause(lines: &[FaultLine], disk: usize, access: u32) -> Option<Cause>
-    ensures { result ≡ first_cause lines.now disk access }
-{
-    lines
-        .iter()
-        .find(|line| line.matches(disk, access))
-        .map(|line| line.cause)
+    ghost few: { length lines.items ≤ 32 },
+    ghost all: { length counts ≡ 32 },
 }
 
 impl FaultScript {
+    ghost use Rattle.shelf.specs.Script.{Adds, BringsBack, count, Counts, due, Fresh};
+
     // A script with no line, that has counted nothing.
     pub fn new() -> FaultScript
         ensures { Fresh result }
@@ -111,7 +123,7 @@ impl FaultScript {
         }
     }
 
-    // One line more, behind the others.
+    // One line more, behind the others; numbers of any size, as in a line.
     pub fn add(&mut self, disk: usize, at: usize, cause: usize) -> Result<(), Denial>
         ensures { Adds self.old disk at cause result self.new }
     {
@@ -142,7 +154,7 @@ impl FaultScript {
         let due = if self.gone.contains(disk) {
             Some(Cause::Gone)
         } else {
-            first_cause(&self.lines, disk, count)
+            FaultLine::first_cause(&self.lines, disk, count)
         };
         if due == Some(Cause::Gone) {
             self.gone.insert(disk);
@@ -157,9 +169,3 @@ impl FaultScript {
         self.gone.remove(disk);
     }
 }
-
-// The same told over whole histories of accesses and renewals: a disk that went away faults as gone until it is renewed,
-// and every other access as the first line with its number says.
-pub fn faults_by_history()
-    ensures { FaultsByHistory }
-{}
