@@ -25,7 +25,7 @@ pub struct Member {
 pub trait Layout {
     ghost shape: { Self → Shape };
 
-    // Each layout answers these two from its own grid: a body here would see no fields.
+    // Each layout answers these two from its own grid: one body for both would want a third method that each answers.
     fn disks(&self) -> usize
         ensures { result ≡ (shape self.now).disks };
 
@@ -48,6 +48,7 @@ pub trait Layout {
     }
 
     // Where the member stands, or none out of range.
+    // Each layout tests the range itself: bare formulas would need a `requires`, which no public function has, by a rule of the project.
     fn place(&self, member: Member) -> Option<Place>
         ensures found { result ≡ found (shape self.now) member }
         ensures small { IfSome result (λ place. place.disk < 16) };
@@ -59,7 +60,7 @@ pub trait Layout {
     ghost placing: { (l : Self) → PlacingLaw (shape l) };
 }
 
-// Worked examples of the three tables hold: the project asks for this theorem by a call, which does nothing.
+// Worked examples of the three tables hold. The function does nothing: a call is how the theorem is asked for.
 pub fn placing_examples()
     ensures { PlacingExamples }
 {}
