@@ -3,7 +3,7 @@
 
 ghost use Rattle.std.specs.Prelude.{◌≡◌, ◌<◌, IfSome};
 ghost use Rattle.layout.specs.Examples.{PlacingExamples};
-ghost use Rattle.layout.specs.Shape.{data_units, found, PlacingLaw, Shape};
+ghost use Rattle.layout.specs.Shape.{data_units, data_width, found, PlacingLaw, Shape};
 
 pub use units::place::Place;
 
@@ -39,12 +39,19 @@ pub trait Layout {
     fn width(&self) -> usize
         ensures { result ≡ (shape self.now).width };
 
+    // How many data members a stripe has: all but the check. It is also the index of the check.
+    fn data_width(&self) -> usize
+        ensures { result ≡ data_width (shape self.now) }
+    {
+        self.width() - 1
+    }
+
     // How many data units the stripes hold in all.
     #[tactic(auto, using(crate::proofs::Spots::few_units))]
     fn data_units(&self) -> usize
         ensures { result ≡ data_units (shape self.now) }
     {
-        self.stripes() * (self.width() - 1)
+        self.stripes() * self.data_width()
     }
 
     // Where the member stands, or none out of range.
