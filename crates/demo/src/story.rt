@@ -53,7 +53,7 @@ fn text_unit(number: usize) -> Unit {
 fn check_of<L: Layout>(layout: &L, stripe: usize) -> Member {
     Member {
         stripe,
-        index: layout.width().saturating_sub(1),
+        index: layout.data_width(),
     }
 }
 
@@ -83,18 +83,14 @@ struct Kept {
 impl Kept {
     fn of<L: Layout + Copy + Drop>(original: &Volume<L>, volume: &Volume<L>, disk: usize) -> Kept {
         let layout = volume.layout();
-        let mut kept = Kept {
+        let members = || (0..layout.rows()).filter_map(|row| layout.owner(Place { disk, row }));
+        Kept {
             disk,
-            right: 0,
-            all: 0,
-        };
-        for member in (0..layout.rows()).filter_map(|row| layout.owner(Place { disk, row })) {
-            kept.all = kept.all.saturating_add(1);
-            if volume.read(member) == original.read(member) {
-                kept.right = kept.right.saturating_add(1);
-            }
+            right: members()
+                .filter(|&member| volume.read(member) == original.read(member))
+                .count(),
+            all: members().count(),
         }
-        kept
     }
 
     fn is_whole(self) -> bool {

@@ -188,23 +188,16 @@ pub fn out_of_range(rt: &impl Print) -> anyhow::Result<()> {
     Ok(())
 }
 
-fn strays<L: Named>(rt: &impl Print, layout: &L) -> io::Result<()> {
+// Pairs of numbers of which one at least is past its end.
+fn past(first: usize, second: usize) -> [(usize, usize); 5] {
     let far = usize::MAX;
-    let places = [
-        (layout.stripes(), 0),
-        (0, layout.width()),
-        (far, 0),
-        (0, far),
-        (far, far),
-    ]
-    .map(|(stripe, index)| layout.place(Member { stripe, index }));
-    let owners = [
-        (layout.disks(), 0),
-        (0, layout.rows()),
-        (far, 0),
-        (0, far),
-        (far, far),
-    ]
-    .map(|(disk, row)| layout.owner(Place { disk, row }));
+    [(first, 0), (0, second), (far, 0), (0, far), (far, far)]
+}
+
+fn strays<L: Named>(rt: &impl Print, layout: &L) -> io::Result<()> {
+    let members = past(layout.stripes(), layout.width());
+    let places = members.map(|(stripe, index)| layout.place(Member { stripe, index }));
+    let spots = past(layout.disks(), layout.rows());
+    let owners = spots.map(|(disk, row)| layout.owner(Place { disk, row }));
     println!(rt; "  {}: places {places:?}, owners {owners:?}", L::NAME)
 }

@@ -33,7 +33,7 @@ module _ (p : Shape) (law : PlacingLaw p) where
   spots_below (suc s) q h e = let below = spot_below s (omega arith) in grind (arith, or_cases, nat_tests, spots_below s q (omega arith))
 
   -- two stripes have different places
-  spot_apart : (s t : ℕ) → s < t → t < p.stripes → spot p t ≡ spot p s → ⊥
+  spot_apart : (s t : ℕ) → s < t → t < p.stripes → ¬ spot p t ≡ spot p s
   spot_apart s t l h e =
       let hs : s < p.stripes = omega arith in
       let same = same_from_place _ _ _ _ p.disks (law.disk_below _ (first t h)) (law.disk_below _ (first s hs)) e in

@@ -1,5 +1,5 @@
 // Chained declustering: each stripe is a unit and its copy, on two neighbouring disks of a ring.
-ghost use Rattle.std.specs.Prelude.{◌≡◌, ◌≤◌};
+ghost use Rattle.std.specs.Prelude.{◌≡◌, ◌/◌, ◌≤◌};
 ghost use Rattle.layout.specs.Shape.{Made};
 ghost use Rattle.layout.specs.Tables.{chain, chain_numbers};
 ghost use Rattle.layout.specs.Chains.{chain_law};
@@ -23,6 +23,13 @@ impl Chain {
             grid: Grid::new(disks, rows)?,
         })
     }
+
+    // How many rows hold originals, and how many copies.
+    fn half(&self) -> usize
+        ensures { result ≡ self.now.grid.rows / 2 }
+    {
+        self.grid.rows / 2
+    }
 }
 
 impl Layout for Chain {
@@ -40,7 +47,7 @@ impl Layout for Chain {
     }
 
     fn stripes(&self) -> usize {
-        self.grid.disks * (self.grid.rows / 2)
+        self.grid.disks * self.half()
     }
 
     fn width(&self) -> usize {
@@ -60,13 +67,13 @@ impl Layout for Chain {
         } else {
             Some(Place {
                 disk: (stripe + 1) % self.grid.disks,
-                row: self.grid.rows / 2 + row,
+                row: self.half() + row,
             })
         }
     }
 
     fn owner(&self, Place { disk, row }: Place) -> Option<Member> {
-        let half = self.grid.rows / 2;
+        let half = self.half();
         if disk >= self.grid.disks || row >= half + half {
             return None;
         }

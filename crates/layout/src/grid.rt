@@ -5,23 +5,27 @@ ghost use Rattle.layout.specs.Tables.{in_range};
 
 use denial::Denial;
 
-// From `LEAST` to `MOST` disks, and from `ROWS` to 4,096 rows.
+// From `LEAST_DISKS` to `MOST_DISKS` disks, and from `LEAST_ROWS` to 4,096 rows.
 #[derive(Clone, Copy)]
-pub struct Grid<const LEAST: usize, const MOST: usize, const ROWS: usize> {
+pub struct Grid<const LEAST_DISKS: usize, const MOST_DISKS: usize, const LEAST_ROWS: usize> {
     pub disks: usize,
     pub rows: usize,
-    ghost some_disks: { LEAST ≤ disks },
-    ghost few_disks: { disks ≤ MOST },
-    ghost some_rows: { ROWS ≤ rows },
+    ghost some_disks: { LEAST_DISKS ≤ disks },
+    ghost few_disks: { disks ≤ MOST_DISKS },
+    ghost some_rows: { LEAST_ROWS ≤ rows },
     ghost few_rows: { rows ≤ 4096 },
 }
 
-impl<const LEAST: usize, const MOST: usize, const ROWS: usize> Grid<LEAST, MOST, ROWS> {
+impl<const LEAST_DISKS: usize, const MOST_DISKS: usize, const LEAST_ROWS: usize> Grid<
+    LEAST_DISKS,
+    MOST_DISKS,
+    LEAST_ROWS,
+> {
     pub fn new(disks: usize, rows: usize) -> Result<Self, Denial>
-        ensures { Made (in_range LEAST MOST disks && in_range ROWS 4096 rows)
+        ensures { Made (in_range LEAST_DISKS MOST_DISKS disks && in_range LEAST_ROWS 4096 rows)
             (λ g. (g.disks ≡ disks) × (g.rows ≡ rows)) result }
     {
-        if (LEAST..=MOST).contains(&disks) && (ROWS..=4096).contains(&rows) {
+        if (LEAST_DISKS..=MOST_DISKS).contains(&disks) && (LEAST_ROWS..=4096).contains(&rows) {
             Ok(Grid { disks, rows })
         } else {
             Err(Denial::BadLayout)

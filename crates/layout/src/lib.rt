@@ -3,7 +3,7 @@
 
 ghost use Rattle.std.specs.Prelude.{◌≡◌, ◌<◌, IfSome};
 ghost use Rattle.layout.specs.Examples.{PlacingExamples};
-ghost use Rattle.layout.specs.Shape.{data_units, found, PlacingLaw, Shape};
+ghost use Rattle.layout.specs.Shape.{data_units, data_width, found, PlacingLaw, Shape};
 
 pub use units::place::Place;
 
@@ -25,7 +25,7 @@ pub struct Member {
 pub trait Layout {
     ghost shape: { Self → Shape };
 
-    // Each layout answers these two from its own grid: a body here would see no fields.
+    // Each layout answers these two from its own grid: one body for both would want a third method that each answers.
     fn disks(&self) -> usize
         ensures { result ≡ (shape self.now).disks };
 
@@ -39,15 +39,23 @@ pub trait Layout {
     fn width(&self) -> usize
         ensures { result ≡ (shape self.now).width };
 
+    // How many data members a stripe has: all but the check. It is also the index of the check.
+    fn data_width(&self) -> usize
+        ensures { result ≡ data_width (shape self.now) }
+    {
+        self.width() - 1
+    }
+
     // How many data units the stripes hold in all.
     #[tactic(auto, using(crate::proofs::Spots::few_units))]
     fn data_units(&self) -> usize
         ensures { result ≡ data_units (shape self.now) }
     {
-        self.stripes() * (self.width() - 1)
+        self.stripes() * self.data_width()
     }
 
     // Where the member stands, or none out of range.
+    // Each layout tests the range itself: bare formulas would need a `requires`, which no public function has, by a rule of the project.
     fn place(&self, member: Member) -> Option<Place>
         ensures found { result ≡ found (shape self.now) member }
         ensures small { IfSome result (λ place. place.disk < 16) };
@@ -59,7 +67,7 @@ pub trait Layout {
     ghost placing: { (l : Self) → PlacingLaw (shape l) };
 }
 
-// Worked examples of the three tables hold: the project asks for this theorem by a call, which does nothing.
+// Worked examples of the three tables hold. The function does nothing: a call is how the theorem is asked for.
 pub fn placing_examples()
     ensures { PlacingExamples }
 {}

@@ -14,7 +14,7 @@ pub fn unit_member<L: Layout>(layout: &L, unit: usize) -> Option<Member>
     if unit >= layout.data_units() {
         return None;
     }
-    let data = layout.width() - 1;
+    let data = layout.data_width();
     Some(Member {
         stripe: unit / data,
         index: unit % data,

@@ -1,5 +1,5 @@
 // Mirrored pairs: each stripe is a unit and its copy, on the two disks of a pair.
-ghost use Rattle.std.specs.Prelude.{◌≡◌, ◌%◌, ◌<◌, ◌≤◌};
+ghost use Rattle.std.specs.Prelude.{◌≡◌, ◌/◌, ◌%◌, ◌<◌, ◌≤◌};
 ghost use Rattle.layout.specs.Shape.{Made};
 ghost use Rattle.layout.specs.Tables.{pair, pair_numbers};
 ghost use Rattle.layout.specs.Pairs.{pair_law};
@@ -27,6 +27,13 @@ impl Pair {
             grid: Grid::new(disks, rows)?,
         })
     }
+
+    // How many pairs the disks make.
+    fn pairs(&self) -> usize
+        ensures { result ≡ self.now.grid.disks / 2 }
+    {
+        self.grid.disks / 2
+    }
 }
 
 impl Layout for Pair {
@@ -44,7 +51,7 @@ impl Layout for Pair {
     }
 
     fn stripes(&self) -> usize {
-        self.grid.disks / 2 * self.grid.rows
+        self.pairs() * self.grid.rows
     }
 
     fn width(&self) -> usize {
@@ -55,7 +62,7 @@ impl Layout for Pair {
         if stripe >= self.stripes() || index >= self.width() {
             return None;
         }
-        let pairs = self.grid.disks / 2;
+        let pairs = self.pairs();
         Some(Place {
             disk: 2 * (stripe % pairs) + index,
             row: stripe / pairs,
@@ -66,7 +73,7 @@ impl Layout for Pair {
         if disk >= self.grid.disks || row >= self.grid.rows {
             return None;
         }
-        let pairs = self.grid.disks / 2;
+        let pairs = self.pairs();
         Some(Member {
             stripe: row * pairs + disk / 2,
             index: disk % 2,
