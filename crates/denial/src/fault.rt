@@ -8,7 +8,8 @@ use std::fmt;
 
 // What a shelf answers in place of an access: 1 for a wrong place or length, 2 to 8 for a disk that failed it.
 // Code 9 is the array's own: a disk that was found marked at start.
-// The code stays a number by a rule of the project: suppliers choose among 2 to 8, and hosts read it.
+// By a rule of the project the code stays a number, which suppliers choose among 2 to 8, and disk and row stand apart: hosts read
+// all three, and of a renewal the disk alone.
 #[derive(Clone, Copy, PartialEq, Eq, Debug)]
 pub struct ShelfFault {
     pub code: u8,
@@ -28,6 +29,7 @@ pub enum Phase {
 }
 
 impl Phase {
+    // No `From`: a bare number would not say of what it is the number.
     pub fn number(self) -> u8
         ensures { result ≡ phase_number self }
     {
@@ -75,6 +77,7 @@ impl RequestFault {
     }
 }
 
+// Node 0 and no phase until `at` says them: zeros in a record are a rule of the project.
 impl From<ShelfFault> for NodeFault {
     ghost from_gives = { λ f r. r ≡ at_node 0 Unset f };
 
@@ -87,6 +90,7 @@ impl From<ShelfFault> for NodeFault {
     }
 }
 
+// Stripe 0 until `on` says it: zeros in a record are a rule of the project.
 impl From<NodeFault> for RequestFault {
     ghost from_gives = { λ f r. r ≡ on_stripe 0 f };
 

@@ -34,7 +34,7 @@ pub enum Denial {
 }
 
 impl Denial {
-    // A match, since a variant that carries something takes no number of its own.
+    // A match, since a variant that carries something takes no number of its own; no `From`, since a number says less than the denial.
     pub fn number(&self) -> u8
         ensures { result ≡ number self.now }
     {

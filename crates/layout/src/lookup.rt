@@ -30,7 +30,8 @@ fn stands_on<L: Layout>(layout: &L, member: Member, disk: usize) -> bool
 
 // The members of a stripe that stand on a disk: at most one, whatever the layout.
 pub fn members_on<L: Layout>(layout: &L, stripe: usize, disk: usize) -> Set
-    ensures each { (j : ℕ) → IsTrue (has result j) ↔ OnDisk (L.shape layout.now) (member_at stripe j) disk }
+    ensures each { (j : ℕ) → IsTrue (has result j)
+        ↔ OnDisk (L.shape layout.now) (member_at stripe j) disk }
     ensures one { count_ones result ≤ 1 }
 {
     let mut members = Set::EMPTY;

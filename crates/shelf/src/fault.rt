@@ -81,8 +81,10 @@ impl<S: Shelf> FaultShelf<S> {
 
     // What a read and a write of `len` bytes come to before the shelf below is asked: a fault where it is not to be asked.
     fn admit(&mut self, place: Place, len: usize) -> Result<(), ShelfFault>
-        ensures script { ByScript S.Shelf.meaning self.old place len result self.new (result ≡ Ok tt) }
-        ensures outside { (¬ Reached S.Shelf.meaning self.old place len) → result ≡ out_of_range place }
+        ensures script { ByScript S.Shelf.meaning self.old place len result self.new
+            (result ≡ Ok tt) }
+        ensures outside { (¬ Reached S.Shelf.meaning self.old place len)
+            → result ≡ out_of_range place }
         ensures passes { OnOk result (self.new ≡ record self.old { script = self.new.script }) }
         ensures below { self.new.below ≡ self.old.below }
     {

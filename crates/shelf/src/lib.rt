@@ -43,7 +43,8 @@ pub trait Shelf {
 
     // Fills the buffer from the place; on a fault it stays as it was.
     fn read(&mut self, place: Place, buffer: &mut [u8]) -> Result<(), ShelfFault>
-        ensures reads { Reads (meaning self.old) place buffer.old result buffer.new (meaning self.new) }
+        ensures reads { Reads (meaning self.old) place buffer.old result
+            buffer.new (meaning self.new) }
         ensures besides { reading self.old place buffer.old result buffer.new self.new };
 
     // Puts `bytes` at the place; a fault may leave any unit there.

@@ -70,7 +70,8 @@ impl MemoryShelf {
     fn put(&mut self, place: Place, unit: &[u8])
         requires { Within self.old.extent.disks self.old.extent.rows place (length unit.now) }
         ensures stored { Stored (kept self.old) place unit.now (kept self.new) }
-        ensures bytes { self.new.bytes.items ≡ with_unit self.old.bytes.items (number_of self.old.extent.rows place) unit.now }
+        ensures bytes { self.new.bytes.items
+            ≡ with_unit self.old.bytes.items (number_of self.old.extent.rows place) unit.now }
     {
         let at = self.start(place);
         let held = &mut self.bytes[at..at + UNIT];
@@ -82,7 +83,8 @@ impl MemoryShelf {
         requires { disk < self.old.extent.disks }
         ensures renewed { Renewed (kept self.old) disk (kept self.new) }
         ensures zeroed { Zeroed (kept self.new) disk }
-        ensures bytes { self.new.bytes.items ≡ with_zeros self.old.bytes.items (disk * self.old.extent.rows) self.old.extent.rows }
+        ensures bytes { self.new.bytes.items
+            ≡ with_zeros self.old.bytes.items (disk * self.old.extent.rows) self.old.extent.rows }
     {
         let at = disk * self.extent.rows * UNIT;
         let held = &mut self.bytes[at..at + self.extent.rows * UNIT];

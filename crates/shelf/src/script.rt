@@ -29,7 +29,7 @@ pub enum Cause {
 impl Cause {
     ghost use Rattle.shelf.specs.Script.{code};
 
-    // The code of a fault with this cause, which is also the cause's number in a line.
+    // The code of a fault with this cause, which is also the cause's number in a line. No `From`: `code` says which number it is.
     pub fn code(self) -> u8
         ensures { result ≡ code self }
     {
