@@ -1,5 +1,6 @@
 pub mod Shape
 pub mod Tables
+pub mod Grids
 pub mod Examples
 pub mod Chains
 pub mod Rings

@@ -1,5 +1,6 @@
 // Chained declustering: each stripe is a unit and its copy, on two neighbouring disks of a ring.
 ghost use Rattle.std.specs.Prelude.{◌≡◌, ◌/◌, ◌≤◌};
+ghost use Rattle.layout.specs.Grids.{HasSizes};
 ghost use Rattle.layout.specs.Shape.{Made};
 ghost use Rattle.layout.specs.Tables.{chain, chain_numbers};
 ghost use Rattle.layout.specs.Chains.{chain_law};
@@ -17,7 +18,7 @@ impl Chain {
     // 2 to 16 disks and 2 to 4,096 rows.
     pub fn new(disks: usize, rows: usize) -> Result<Chain, Denial>
         ensures { Made (chain_numbers disks rows)
-            (λ l. (l.grid.disks ≡ disks) × (l.grid.rows ≡ rows)) result }
+            (λ l. HasSizes disks rows l.grid) result }
     {
         Ok(Chain {
             grid: Grid::new(disks, rows)?,

@@ -1,7 +1,5 @@
 // The disks and rows of a layout, within the bounds that it sets.
 ghost use Rattle.std.specs.Prelude.{◌≡◌, ◌≤◌, ◌&&◌};
-ghost use Rattle.layout.specs.Shape.{Made};
-ghost use Rattle.layout.specs.Tables.{in_range};
 
 use denial::Denial;
 
@@ -21,9 +19,13 @@ impl<const LEAST_DISKS: usize, const MOST_DISKS: usize, const LEAST_ROWS: usize>
     MOST_DISKS,
     LEAST_ROWS,
 > {
+    ghost use Rattle.layout.specs.Grids.{HasSizes};
+    ghost use Rattle.layout.specs.Shape.{Made};
+    ghost use Rattle.layout.specs.Tables.{in_range};
+
     pub fn new(disks: usize, rows: usize) -> Result<Self, Denial>
         ensures { Made (in_range LEAST_DISKS MOST_DISKS disks && in_range LEAST_ROWS 4096 rows)
-            (λ g. (g.disks ≡ disks) × (g.rows ≡ rows)) result }
+            (HasSizes disks rows) result }
     {
         if (LEAST_DISKS..=MOST_DISKS).contains(&disks) && (LEAST_ROWS..=4096).contains(&rows) {
             Ok(Grid { disks, rows })

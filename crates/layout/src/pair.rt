@@ -1,5 +1,6 @@
 // Mirrored pairs: each stripe is a unit and its copy, on the two disks of a pair.
 ghost use Rattle.std.specs.Prelude.{◌≡◌, ◌/◌, ◌%◌, ◌<◌, ◌≤◌};
+ghost use Rattle.layout.specs.Grids.{HasSizes};
 ghost use Rattle.layout.specs.Shape.{Made};
 ghost use Rattle.layout.specs.Tables.{pair, pair_numbers};
 ghost use Rattle.layout.specs.Pairs.{pair_law};
@@ -18,7 +19,7 @@ impl Pair {
     // An even number of disks from 2 to 16, and 1 to 4,096 rows.
     pub fn new(disks: usize, rows: usize) -> Result<Pair, Denial>
         ensures { Made (pair_numbers disks rows)
-            (λ l. (l.grid.disks ≡ disks) × (l.grid.rows ≡ rows)) result }
+            (λ l. HasSizes disks rows l.grid) result }
     {
         if disks % 2 != 0 {
             return Err(Denial::BadLayout);

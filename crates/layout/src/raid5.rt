@@ -1,5 +1,6 @@
 // Left-symmetric RAID-5: one check unit in each row, which moves one disk to the left with each stripe.
 ghost use Rattle.std.specs.Prelude.{◌≡◌, ◌-◌, ◌%◌, ◌≤◌};
+ghost use Rattle.layout.specs.Grids.{HasSizes};
 ghost use Rattle.layout.specs.Shape.{Made};
 ghost use Rattle.layout.specs.Tables.{check_disk, raid5, raid5_numbers};
 ghost use Rattle.layout.specs.Raid.{raid5_law};
@@ -17,7 +18,7 @@ impl Raid5 {
     // 3 to 8 disks and 1 to 4,096 rows.
     pub fn new(disks: usize, rows: usize) -> Result<Raid5, Denial>
         ensures { Made (raid5_numbers disks rows)
-            (λ l. (l.grid.disks ≡ disks) × (l.grid.rows ≡ rows)) result }
+            (λ l. HasSizes disks rows l.grid) result }
     {
         Ok(Raid5 {
             grid: Grid::new(disks, rows)?,

@@ -45,7 +45,7 @@ abbrev pub after_write : MemoryShelf → Place → List ℕ → List ℕ
 after_write s p us =
     if reached s p (length us) then with_unit (vec_items s.bytes) (number_of s.extent.rows p) us else vec_items s.bytes
 
--- the bytes with n units of zeros from unit i on
+-- the bytes with n units of zeros from unit i on; `with_part` is of one unit, and its lemmas are of 512 bytes
 abbrev pub with_zeros : List ℕ → ℕ → ℕ → List ℕ
 with_zeros bs i n = take (i * 512) bs ++ (replicate (n * 512) 0 ++ drop (i * 512 + n * 512) bs)
 
