@@ -34,7 +34,7 @@ pub enum Denial {
 }
 
 impl Denial {
-    // A match, since a variant that carries something takes no number of its own; no `From`, since a number says less than the denial.
+    // A match, since a variant that carries something takes no number of its own; no `From`, since a bare number would not say of what it is the number.
     pub fn number(&self) -> u8
         ensures { result ≡ number self.now }
     {

@@ -55,7 +55,8 @@ pub trait Layout {
     }
 
     // Where the member stands, or none out of range.
-    // Each layout tests the range itself: bare formulas would need a `requires`, which no public function has, by a rule of the project.
+    // Each layout tests the range itself, here and in `owner`: bare formulas would need a `requires`, which by a rule of the project no
+    // public function has.
     fn place(&self, member: Member) -> Option<Place>
         ensures found { result ≡ found (shape self.now) member }
         ensures small { IfSome result (λ place. place.disk < 16) };

@@ -15,6 +15,7 @@ pub struct Label {
 impl fmt::Display for Label {
     fn fmt<W: fmt::Write>(&self, f: &mut fmt::Formatter<W>) -> fmt::Result {
         let Member { stripe, index } = self.member;
+        // All members but the check, as a layout's `data_width`: a label is handed the width, and no layout.
         let data = self.width.saturating_sub(1);
         let (letter, number) = if index == data {
             ('C', stripe)

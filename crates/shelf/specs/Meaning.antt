@@ -18,7 +18,7 @@ pub record Lawful (m : Meaning) : Type 0 where
 
 -- ---- what is asked, and how it is answered
 
--- an access in range of these disks and rows, with n bytes handed over, which are to be a unit
+-- an access in range of these disks and rows, with n bytes handed over, which are to be a unit; the two numbers stand apart, as in a meaning
 pub record Within (disks rows : ℕ) (p : Place) (n : ℕ) : Type 0 where
   pub disk : p.disk < disks
   pub row : p.row < rows

@@ -69,7 +69,7 @@ impl<S: Shelf> FaultShelf<S> {
         }
     }
 
-    // Marks the disk here, and gives the fault of this cause.
+    // Marks the disk here, and gives the fault of this cause. A supplier's example has the same again, to be whole.
     fn fail(&mut self, place: Place, cause: Cause) -> ShelfFault
         ensures fault { result ≡ fault_at (code cause) place }
         ensures marks { Inserts self.old.marks self.new.marks place.disk }

@@ -25,7 +25,7 @@ impl MemoryShelf {
     ghost use Rattle.units.specs.Units.{with_unit};
 
     // A shelf over these bytes; one with no disks where there are over 32 disks or 4,096 rows, or the bytes are not a unit for each place.
-    // No `Result`, by a rule of the project: numbers that do not fit make a shelf that answers every call with code 1.
+    // No `Result`, by a rule of the project: numbers that do not fit make a shelf that answers every access and renewal with code 1.
     pub fn new(disks: usize, rows: usize, bytes: Vec<u8>) -> MemoryShelf
         ensures meaning { kept result ≡ new_memory disks rows bytes.items }
         ensures bytes { result.bytes ≡ bytes }

@@ -47,6 +47,7 @@ impl Call {
         match self {
             Call::Read { place, len } => read_first(shelf, place, len),
             Call::Write { place, len, fill } => {
+                // An array, as in `read_first`.
                 shelf.write(place, &[fill; LONGEST][..len.min(LONGEST)])?;
                 Ok(None)
             }

@@ -16,7 +16,7 @@ impl fmt::Display for Added {
     }
 }
 
-// Disk, access and cause: numbers, since some name no disk, no access or no cause.
+// Disk, access and cause: numbers, as a script is made from, since some name no disk, no access or no cause.
 const LINES: [(usize, usize, usize); 14] = [
     (0, 1, 2),
     (31, 1, 2),

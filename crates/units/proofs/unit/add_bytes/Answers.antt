@@ -1,4 +1,4 @@
--- One byte more is summed.
+-- No byte is summed at first; then one byte more.
 use Rattle.std.proofs.Common.{arith}
 use Rattle.units.proofs.Sums.{summed_none, summed_more}
 use Rattle.units.proofs.unit.add_bytes.Goals as goal
