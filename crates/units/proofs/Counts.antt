@@ -1,9 +1,7 @@
 -- How many numbers a set has, which they are in order, and the lowest of them.
 use Rattle.std.proofs.Common.{◌≡◌, ℕ, zero, suc, ◌+◌, ◌/◌, ◌%◌, ◌^◌, ◌<◌, ◌≤◌, Bool, true, false, cond, ◌&&◌, eqb, List, [], ◌∷◌, length, get_or, sym, refl, ap, ap₂, ◌∙◌, inl, inr, pow-suc, arith}
 use lib.Bits.{bit_and, bit_or, or_disjoint}
-use lib.Count.{ones, ones_step, count_trailing_zeros}
-use Rattle.std.specs.Int.{w32}
-use Rattle.std.proofs.lemmas.Nat.Bits.{bit_at-trailing_zeros}
+use lib.Count.{ones, ones_step, count_trailing_zeros, under}
 use Rattle.std.proofs.lemmas.List.Elements.{All-filter, Contains-append_right, filter_passes}
 use Rattle.std.proofs.lemmas.List.FromFn.{get_or-range_with_len, length-range_with_len}
 use Rattle.std.proofs.lemmas.List.Kept.{IsStrictlyIncreasing-filter}
@@ -11,8 +9,8 @@ use Rattle.std.proofs.lemmas.Bool.{both_ways, cases_eq, eqb-false, eqb-true}
 use Rattle.std.proofs.lemmas.Bool.Decides.{nat_tests}
 use Rattle.std.specs.List.{All, Contains, filter, range_with_len}
 use Rattle.std.specs.List.Sorted.{IsStrictlyIncreasing}
-use Rattle.units.specs.Sets.{elements, has}
-use Rattle.units.proofs.Sets.{has_and, has_ext, has_none, has_pow, has_suc, has_zero}
+use Rattle.units.specs.Sets.{elements, has, Lowest}
+use Rattle.units.proofs.Sets.{below_pow, has_and, has_ext, has_none, has_pow, has_suc, has_zero}
 
 -- ---- the digit of the number 0
 
@@ -135,11 +133,6 @@ elements_rising n s = IsStrictlyIncreasing-filter (has s) (range_with_len 0 n) r
         let in_range : k + 1 < n = omega (arith, length-range_with_len 0 n) in
         omega (arith, get_or-range_with_len 0 n k 0 (omega arith), get_or-range_with_len 0 n (k + 1) 0 in_range)
 
--- a number n, and so each set n, is below 2 ^ n
-below_pow : (n : ℕ) → n < 2 ^ n
-below_pow zero = omega arith
-below_pow (suc n) = omega (arith, pow-suc 2 n, below_pow n)
-
 -- two different numbers of a set that has two
 pub two_out : (s : ℕ) → 2 ≤ ones s → (i : ℕ) × (j : ℕ) × (i ≡ j → ⊥) × (has s i ≡ true) × (has s j ≡ true)
 two_out s h =
@@ -147,11 +140,30 @@ two_out s h =
     let rises = elements_rising s s 0 l in
     (get_or (elements s s) 0 0, get_or (elements s s) 1 0, λ e. omega arith, (elements_in s s 0 0 (omega arith)).0, (elements_in s s 1 0 l).0)
 
--- ---- the lowest number of a set, as `Set::lowest` finds it
+-- ---- the lowest number of a set
 
+pub lowest_trailing : (k s : ℕ) → 0 < s → s < 2 ^ k → Lowest s (count_trailing_zeros k s)
+unfolding count_trailing_zeros
+lowest_trailing zero s pos h = absurd (omega arith)
+lowest_trailing (suc k) s pos h =
+    digit (s % 2) refl (λ even. lowest_trailing k (s / 2) (omega arith) (omega (arith, pow-suc 2 k)))
+  where
+    digit : (d : ℕ) → s % 2 ≡ d → (s % 2 ≡ 0 → Lowest (s / 2) (count_trailing_zeros k (s / 2))) → Lowest s (under d (count_trailing_zeros k (s / 2)))
+    digit zero e half =
+        let low = half e in
+        record { there = has_suc s _ ∙ low.there; none_below = below }
+      where
+        below : (j : ℕ) → j < suc (count_trailing_zeros k (s / 2)) → has s j ≡ false
+        below zero l = has_zero s ∙ ap (λ n. eqb n 1) e
+        below (suc j) l = has_suc s j ∙ (half e).none_below j (omega arith)
+    digit (suc d) e half =
+        let odd : s % 2 ≡ 1 = omega arith in
+        record { there = has_zero s ∙ ap (λ n. eqb n 1) odd; none_below = λ j l. absurd (omega arith) }
+
+-- the same as `Set::lowest` needs it
 pub lowest_there : (s : ℕ) → 0 < s → s < 2 ^ 32 → has s (count_trailing_zeros 32 s) ≡ true
-lowest_there s some h = ap (λ n. eqb n 1) (bit_at-trailing_zeros w32 s some h).1
+lowest_there s some h = (lowest_trailing 32 s some h).there
 
 pub none_below_lowest : (s j : ℕ) → s < 2 ^ 32 → j < count_trailing_zeros 32 s → has s j ≡ false
 none_below_lowest zero j h l = has_none j
-none_below_lowest (suc s) j h l = ap (λ n. eqb n 1) ((bit_at-trailing_zeros w32 (suc s) (omega arith) h).2 j l)
+none_below_lowest (suc s) j h l = (lowest_trailing 32 (suc s) (omega arith) h).none_below j l
