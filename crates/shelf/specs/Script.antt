@@ -1,5 +1,5 @@
 -- A script of faults: its lines, and which access of a disk is to fault. Assumes nothing.
-use Rattle.std.specs.Prelude.{◌≡◌, ℕ, ◌+◌, min, Bool, true, false, if◌then◌else◌, ◌&&◌, ◌||◌, List, [], ◌∷◌, ◌++◌, length, find, replicate, Some, None, Ok, Err, Option, ok_or, option_map, unwrap_or, Result, MatchResult, ◌==◌, nat_le, nat_lt, slice_get, slice_set}
+use Rattle.std.specs.Prelude.{◌≡◌, ℕ, ◌+◌, ◌≤◌, min, Bool, true, false, if◌then◌else◌, ◌&&◌, ◌||◌, List, [], ◌∷◌, ◌++◌, length, find, replicate, Some, None, Ok, Err, Option, ok_or, option_map, unwrap_or, Result, MatchResult, ◌==◌, nat_le, nat_lt, slice_get, slice_set}
 use Rattle.denial.specs.declared.Denial.{Denial}
 use Rattle.denial.specs.declared.Denial.TheVariants.{BadFaultLine, TooManyFaultLines}
 use Rattle.shelf.specs.declared.script.Cause.{Cause}
@@ -92,7 +92,8 @@ pub record Counts (s : FaultScript) (d : ℕ) (t : FaultScript) : Type 0 where
   pub counts : t.counts ≡ slice_set s.counts d (next_count s d)
   pub gone : (e : ℕ) → has t.gone e ≡ (has s.gone e || (e == d && takes_away (due s d)))
 
--- a renewed disk is there again; its count goes on
+-- a renewed disk is there again; its count goes on; over 31 nothing changes
 pub record BringsBack (s : FaultScript) (d : ℕ) (t : FaultScript) : Type 0 where
   pub gone : Removes s.gone t.gone d
   pub others : t ≡ record s { gone = t.gone }
+  pub over : 32 ≤ d → t ≡ s

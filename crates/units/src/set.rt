@@ -44,7 +44,8 @@ impl Set {
 
     #[tactic(auto, using(crate::proofs::Sets::removed, crate::proofs::Sets::none_over))]
     pub fn remove(&mut self, i: usize)
-        ensures { Removes self.old self.new i }
+        ensures taken { Removes self.old self.new i }
+        ensures over { 32 ≤ i → self.new ≡ self.old }
     {
         // Read before the test, since a number over 31 is in no set of 32 bits.
         let bits = self.bits;
