@@ -10,7 +10,7 @@ pub const LIMIT: usize = 32;
 // Number i is in the set where bit i of `bits` is set. In contracts a set is the number `bits`.
 #[derive(Clone, Copy, PartialEq, Eq, Debug)]
 pub struct Set {
-    bits: u32,
+    pub bits: u32,
 }
 
 impl Model for Set {
