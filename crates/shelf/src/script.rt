@@ -21,19 +21,24 @@ const LAST_ACCESS: u32 = 2_147_483_647;
 #[derive(Clone, Copy, PartialEq, Eq, Debug, Default)]
 pub enum Cause {
     #[default]
-    Medium = 2,
-    Gone = 3,
-    Late = 4,
+    Medium,
+    Gone,
+    Late,
 }
 
 impl Cause {
     ghost use Rattle.shelf.specs.Script.{code};
 
     // The code of a fault with this cause, which is also the cause's number in a line. No `From`: `code` says which number it is.
+    // A match: numbers at the variants would change what a cast of a cause gives.
     pub fn code(self) -> u8
         ensures { result ≡ code self }
     {
-        self as u8
+        match self {
+            Cause::Medium => 2,
+            Cause::Gone => 3,
+            Cause::Late => 4,
+        }
     }
 }
 
