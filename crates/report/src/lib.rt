@@ -11,19 +11,37 @@ pub struct Label {
     pub width: usize,
 }
 
-// A label stands at the right end of the room that the format gives it.
-impl fmt::Display for Label {
-    fn fmt<W: fmt::Write>(&self, f: &mut fmt::Formatter<W>) -> fmt::Result {
+impl Label {
+    fn letter_and_number(self) -> (char, usize) {
         let Member { stripe, index } = self.member;
         // All members but the check, as a layout's `data_width`: a label is handed the width, and no layout.
         let data = self.width.saturating_sub(1);
-        let (letter, number) = if index == data {
+        if index == data {
             ('C', stripe)
         } else {
             ('D', stripe.saturating_mul(data).saturating_add(index))
+        }
+    }
+}
+
+impl fmt::Display for Label {
+    fn fmt<W: fmt::Write>(&self, f: &mut fmt::Formatter<W>) -> fmt::Result {
+        let (letter, number) = self.letter_and_number();
+        write!(f, "{letter}{number}")
+    }
+}
+
+// What stands at a place of the table: eight characters, with the label at their right end, or a dash.
+#[derive(Clone, Copy)]
+struct Cell(Option<Label>);
+
+impl fmt::Display for Cell {
+    fn fmt<W: fmt::Write>(&self, f: &mut fmt::Formatter<W>) -> fmt::Result {
+        let Some(label) = self.0 else {
+            return write!(f, "{:>8}", '-');
         };
-        let digits = number.checked_ilog10().unwrap_or(0) as usize + 1;
-        let room = f.width().unwrap_or(0).saturating_sub(digits);
+        let (letter, number) = label.letter_and_number();
+        let room = 7usize.saturating_sub(number.checked_ilog10().unwrap_or(0) as usize);
         write!(f, "{letter:>room$}{number}")
     }
 }
@@ -52,10 +70,9 @@ impl<L: Layout> fmt::Display for Table<'_, L> {
         for row in 0..rows {
             write!(f, "\n {row:>4}")?;
             for disk in 0..disks {
-                match self.layout.owner(Place { disk, row }) {
-                    Some(member) => write!(f, "{:>8}", Label { member, width })?,
-                    None => write!(f, "{:>8}", '-')?,
-                }
+                let owner = self.layout.owner(Place { disk, row });
+                let label = owner.map(|member| Label { member, width });
+                write!(f, "{}", Cell(label))?;
             }
         }
         Ok(())
