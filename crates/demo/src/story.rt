@@ -42,9 +42,11 @@ pub fn tell<L: Layout + Copy + Drop>(
 // The data unit of this number: the text is said over and over.
 fn text_unit(number: usize) -> Unit {
     let mut unit = [0; UNIT];
-    let letters = TEXT.bytes().cycle().skip(number.saturating_mul(UNIT));
-    for (byte, letter) in unit.iter_mut().zip(letters) {
-        *byte = letter;
+    let text = TEXT.as_bytes();
+    let from = number.saturating_mul(UNIT);
+    // By the place in the text: a `skip` would walk over all that comes before.
+    for (i, byte) in unit.iter_mut().enumerate() {
+        *byte = text[from.saturating_add(i) % text.len()];
     }
     unit
 }
