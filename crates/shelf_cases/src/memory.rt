@@ -35,6 +35,15 @@ pub fn places(rt: &impl Print, heap: Global) -> anyhow::Result<()> {
     play(rt, heap, &mut shelf, &calls)
 }
 
+// The first byte of each unit of the bytes. An array: a Vec would bring an error that the line which prints it has not.
+fn firsts(bytes: &[u8]) -> [u8; 6] {
+    let mut firsts = [0; 6];
+    for (first, unit) in firsts.iter_mut().zip(bytes.chunks_exact(UNIT)) {
+        *first = unit.first().copied().unwrap_or(0);
+    }
+    firsts
+}
+
 pub fn changes(rt: &impl Print, heap: Global) -> anyhow::Result<()> {
     println!(rt; "\nA write changes one place, a renewal one disk.")?;
     let mut shelf = small(heap)?;
@@ -53,10 +62,10 @@ pub fn changes(rt: &impl Print, heap: Global) -> anyhow::Result<()> {
     ];
     play(rt, heap, &mut shelf, &calls)?;
     let bytes = shelf.into_bytes();
-    let firsts: Vec<u8> = bytes.iter().step_by(UNIT).copied().collect(heap)?;
     println!(rt;
-        "  taken apart: {} bytes, the units {firsts:?}",
-        bytes.len()
+        "  taken apart: {} bytes, the units {:?}",
+        bytes.len(),
+        firsts(&bytes)
     )?;
     Ok(())
 }
