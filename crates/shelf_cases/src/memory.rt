@@ -35,7 +35,7 @@ pub fn places(rt: &impl Print, heap: Global) -> anyhow::Result<()> {
     play(rt, heap, &mut shelf, &calls)
 }
 
-// The first byte of each unit of the bytes. An array: a Vec would bring an error that the line which prints it has not.
+// The first byte of each of six units.
 fn firsts(bytes: &[u8]) -> [u8; 6] {
     let mut firsts = [0; 6];
     for (first, unit) in firsts.iter_mut().zip(bytes.chunks_exact(UNIT)) {

@@ -7,7 +7,8 @@ use std::marker::Model;
 // How many numbers a set can hold.
 pub const LIMIT: usize = 32;
 
-// Number i is in the set where bit i of `bits` is set. In contracts a set is the number `bits`.
+// Number i is in the set where bit i of `bits` is set. In contracts a set is the number `bits`. The field is public for constants, which can call no
+// function; elsewhere `From` goes both ways.
 #[derive(Clone, Copy, PartialEq, Eq, Debug)]
 pub struct Set {
     pub bits: u32,
