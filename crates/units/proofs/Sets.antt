@@ -22,8 +22,8 @@ min_digit x y hx hy = grind (arith, nat_tests)
 max_digit : (x y : ℕ) → x < 2 → y < 2 → eqb (max x y) 1 ≡ (eqb x 1 || eqb y 1)
 max_digit x y hx hy = grind (arith, nat_tests)
 
-turned : (x y : ℕ) → x < 2 → y ≡ 1 - x → eqb y 1 ≡ not (eqb x 1)
-turned x y h e = grind (arith, nat_tests)
+other_digit : (x y : ℕ) → x < 2 → y ≡ 1 - x → eqb y 1 ≡ not (eqb x 1)
+other_digit x y h e = grind (arith, nat_tests)
 
 and_true : (t : Bool) → (t && true) ≡ t
 and_true true = refl
@@ -77,7 +77,7 @@ has_put s j i = has_or s (2 ^ j) i ∙ ap (λ t. has s i || t) (has_pow j i)
 pub has_complement : (k b i : ℕ) → b < 2 ^ k → i < k → has (2 ^ k - 1 - b) i ≡ not (has b i)
 has_complement zero b i h l = absurd (omega arith)
 has_complement (suc k) b zero h l =
-    has_zero (2 ^ suc k - 1 - b) ∙ turned (b % 2) ((2 ^ suc k - 1 - b) % 2) (omega arith) (omega (arith, pow-suc 2 k)) ∙ ap not (sym (has_zero b))
+    has_zero (2 ^ suc k - 1 - b) ∙ other_digit (b % 2) ((2 ^ suc k - 1 - b) % 2) (omega arith) (omega (arith, pow-suc 2 k)) ∙ ap not (sym (has_zero b))
 has_complement (suc k) b (suc i) h l =
     let high : (2 ^ suc k - 1 - b) / 2 ≡ 2 ^ k - 1 - b / 2 = omega (arith, pow-suc 2 k) in
     has_suc (2 ^ suc k - 1 - b) i
